@@ -1,0 +1,4 @@
+pub mod Arrays
+pub mod Sound
+pub mod Data
+pub mod Replies

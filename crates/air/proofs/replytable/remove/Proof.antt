@@ -1,0 +1,26 @@
+use mathlib.Core.Path.{sym, _∙_, ap}
+use borrow.Author.Needs.{needs}
+use Rattle.limits.proofs.Laws.Promise.{called-sound, called-unsound}
+use Rattle.air.specs.Replies.{replyMessages}
+use Rattle.limits.proofs.Laws.Choice.{two}
+use Rattle.air.proofs.replytable.remove.Statement.{statement}
+use Rattle.air.proofs.replytable.remove.Tie as tie
+
+sound-requires : tie.Need-sound-requires
+sound-requires c κs = search needs
+
+remove-requires : tie.Need-remove-requires
+remove-requires c κs = two _ _ (sym (c .before .sound .ensures) ∙ c .if1 .taken)
+
+unsound-requires : tie.Need-unsound-requires
+unsound-requires c κs = search needs
+
+returns : tie.Need-returns
+returns c = called-sound _ _ _ _ _ _ _ _ _ (sym (c .before .before .sound .ensures) ∙ c .before .if1 .taken) (c .remove .ensures)
+
+returns-2 : tie.Need-returns-2
+returns-2 c = called-unsound _ _ _ _ _ _ _ _ _ (sym (c .before .before .sound .ensures) ∙ c .before .if1 .left) (c .unsound .ensures .0) (ap replyMessages (c .unsound .ensures .1)) (c .unsound .ensures .1)
+
+pub remove-spec : {M : Type 1} → statement M
+remove-spec =
+    tie.close (tie.spec sound-requires remove-requires unsound-requires returns returns-2)

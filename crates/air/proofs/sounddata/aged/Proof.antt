@@ -1,0 +1,102 @@
+use borrow.Author.Tests.{ltb-true, ltb-false}
+use lib.ListN.{length, getD, length-set}
+use mathlib.Core.Path.{_≡_, sym, _∙_}
+use Prim.Native.Nat.{_-_, _≤_, _<_}
+use native.Mathlib.Omega.{arith}
+use borrow.Author.Needs.{needs}
+use Rattle.air.specs.Data.{dataAt, dataMessages}
+use Rattle.air.proofs.Laws.Data.{data-moves}
+use Rattle.air.proofs.Laws.Sound.{Aging, aging-start, aging-drops, aging-end}
+use Rattle.air.proofs.Laws.Arrays.{length-moved}
+use Rattle.air.proofs.sounddata.aged.Statement.{statement}
+use Rattle.air.proofs.sounddata.aged.Tie as tie
+
+abbrev Inv-loop : tie.InvT-loop
+Inv-loop d count numbers₀ lives₀ cells₀ kept₀ i₀ numbers lives cells kept i = (kept ≤ i) × (i ≤ count) × (count ≤ 32) × (length numbers ≡ 32) × (length lives ≡ 32) × (length cells ≡ 512) × Aging d kept i (dataAt numbers₀ lives₀ cells₀) (dataAt numbers lives cells)
+
+abbrev μ-loop : tie.MeasureT-loop
+μ-loop d count numbers₀ lives₀ cells₀ kept₀ i₀ numbers lives cells kept i = count - i
+
+loop-holds : tie.Need-loop-holds Inv-loop μ-loop
+loop-holds c = (omega arith, omega arith, omega arith, search needs, search needs, search needs, aging-start _ _)
+
+add-i : tie.Need-add-i Inv-loop μ-loop
+add-i c = omega arith
+
+mul-life : tie.Need-mul-life Inv-loop μ-loop
+mul-life c = omega arith
+
+array-read-life : tie.Need-array-read-life Inv-loop μ-loop
+array-read-life c = omega arith
+
+outlives-requires : tie.Need-outlives-requires Inv-loop μ-loop
+outlives-requires c κs = search needs
+
+mul-numbers : tie.Need-mul-numbers Inv-loop μ-loop
+mul-numbers c = omega arith
+
+array-read-numbers : tie.Need-array-read-numbers Inv-loop μ-loop
+array-read-numbers c = omega arith
+
+mul-numbers-2 : tie.Need-mul-numbers-2 Inv-loop μ-loop
+mul-numbers-2 c = omega arith
+
+array-write-numbers : tie.Need-array-write-numbers Inv-loop μ-loop
+array-write-numbers c = omega arith
+
+sub-lives : tie.Need-sub-lives Inv-loop μ-loop
+sub-lives c = let h : c .before .before .before .before .before .before .before .args .d < getD (c .before .before .before .loop .lives) (c .before .before .before .loop .i) 0 = ltb-true _ _ (sym (c .before .outlives .ensures) ∙ c .if1 .taken) in omega arith
+
+mul-lives : tie.Need-mul-lives Inv-loop μ-loop
+mul-lives c = omega arith
+
+array-write-lives : tie.Need-array-write-lives Inv-loop μ-loop
+array-write-lives c = omega arith
+
+move-row-requires : tie.Need-move-row-requires Inv-loop μ-loop
+move-row-requires c κs = search needs
+
+add-kept : tie.Need-add-kept Inv-loop μ-loop
+add-kept c = omega arith
+
+loop-less : tie.Need-loop-less Inv-loop μ-loop
+loop-less c = omega arith
+
+loop-again : tie.Need-loop-again Inv-loop μ-loop
+loop-again c = (omega arith, omega arith, omega arith, simp length-set (c .before .before .before .before .before .loop .inv .3), simp length-set (c .before .before .before .before .before .loop .inv .4), length-moved _ _ _ _ (c .move-row .ensures) (c .before .before .before .before .before .loop .inv .5), data-moves (c .before .before .before .before .before .loop .numbers) (c .before .before .before .before .before .loop .lives) (c .before .before .before .before .before .loop .cells) (c .before .before .before .before .before .loop .inv .3) (c .before .before .before .before .before .loop .inv .4) (c .before .before .before .before .before .loop .inv .5) _ _ _ _ _ (c .before .before .before .before .before .loop .inv .6) (omega arith) (omega arith) (ltb-true _ _ (sym (c .before .before .before .outlives .ensures) ∙ c .before .before .if1 .taken)) (c .move-row .ensures))
+
+loop-less-2 : tie.Need-loop-less-2 Inv-loop μ-loop
+loop-less-2 c = omega arith
+
+loop-again-2 : tie.Need-loop-again-2 Inv-loop μ-loop
+loop-again-2 c = (omega arith, omega arith, omega arith, c .before .before .before .loop .inv .3, c .before .before .before .loop .inv .4, c .before .before .before .loop .inv .5, aging-drops _ _ _ _ _ (c .before .before .before .loop .inv .6) (omega arith) (ltb-false _ _ (sym (c .before .outlives .ensures) ∙ c .if1 .left)))
+
+returns : tie.Need-returns Inv-loop μ-loop
+unfolding dataMessages
+returns c = aging-end _ _ _ _ _ _ (c .before .loop .inv .6) (omega arith)
+
+pub aged-spec : {M : Type 1} → statement M
+aged-spec =
+    tie.close
+    (tie.spec
+    Inv-loop
+    μ-loop
+    loop-holds
+    add-i
+    mul-life
+    array-read-life
+    outlives-requires
+    mul-numbers
+    array-read-numbers
+    mul-numbers-2
+    array-write-numbers
+    sub-lives
+    mul-lives
+    array-write-lives
+    move-row-requires
+    add-kept
+    loop-less
+    loop-again
+    loop-less-2
+    loop-again-2
+    returns)

@@ -1,0 +1,45 @@
+-- The data table as a list of messages. What stands in its arrays beyond the count is free: it does not occur in the list.
+use Prim.Native.Nat.{ℕ}
+use mathlib.Core.Bool.{Bool}
+use mathlib.Core.List.{List}
+use lib.ListN.{getD, replicate}
+use Rattle.limits.specs.declared.Limits.{Limits}
+use Rattle.limits.specs.Lists.{tab}
+use Rattle.limits.specs.Cells.{rowAt}
+use Rattle.limits.specs.Questions.{Question, Answers, Called}
+use Rattle.limits.specs.Tables.{Message, Data, soundData}
+use Rattle.air.specs.declared.datatable.DataTable.{DataTable}
+use Rattle.air.specs.declared.datatable.DataMessage.{DataMessage}
+use Rattle.air.specs.declared.datatable.DataAnswer.{DataAnswer}
+use Rattle.air.specs.declared.datatable.DataRead.{DataRead}
+use Rattle.air.specs.Rules.{soundMessage, soundMessages}
+
+-- message i of the three arrays
+abbrev pub dataAt : List ℕ → List ℕ → List ℕ → ℕ → Message Data
+dataAt numbers lives cells i = record { body = record { number = getD numbers i 0; row = rowAt cells i }; life = getD lives i 0 }
+
+unfoldable pub dataMessages : DataTable → List (Message Data)
+dataMessages t = tab (t .count) (dataAt (t .numbers) (t .lives) (t .cells))
+
+abbrev pub dataMessage : DataMessage → Message Data
+dataMessage m = record { body = record { number = m .number; row = m .row }; life = m .life }
+
+abbrev pub noData : Message Data
+noData = record { body = record { number = 0; row = replicate 16 0 }; life = 0 }
+
+abbrev pub emptyData : DataTable
+emptyData = record { count = 0; numbers = replicate 32 0; lives = replicate 32 0; cells = replicate 512 0 }
+
+abbrev pub soundDataMessage : Limits → Message Data → Bool
+soundDataMessage l m = soundMessage (soundData l) (l .datalife) m
+
+unfoldable pub soundDataTable : Limits → DataTable → Bool
+soundDataTable l t = soundMessages (soundData l) (l .datalife) (dataMessages t)
+
+-- what a call on a data table promises, where `done` is the table that its event leaves
+abbrev pub DataCall : Limits → DataTable → List Question → List (Message Data) → DataAnswer → Type 0
+DataCall l t questions done r = Called questions (r .answer) (dataMessages (r .table)) done (dataMessages t) (soundDataTable l) t (r .table)
+
+-- what reading message p promises
+abbrev pub DataReading : DataTable → ℕ → List Question → DataRead → Type 0
+DataReading t p questions r = Answers questions (r .answer) (dataMessage (r .message)) (getD (dataMessages t) p noData) noData

@@ -1,0 +1,7 @@
+pub mod Ring
+pub mod Choice
+pub mod Lists
+pub mod Tables
+pub mod Good
+pub mod Promise
+pub mod Replies

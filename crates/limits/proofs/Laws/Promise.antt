@@ -1,0 +1,113 @@
+-- Laws on what a call promises: from the first no to the two records that contracts cite.
+use Prim.Native.Nat.{ℕ, _≤_, _<_}
+use mathlib.Core.Path.{_≡_, refl, sym, _∙_, ap}
+use mathlib.Core.Bool.{Bool, true, false}
+use mathlib.Core.List.{List, [], _∷_}
+use types.Run.{OneOf, miss}
+use denote.Enum.Declared.{tagOf}
+use lib.Dec.{eqb}
+use borrow.Author.Tests.{le-leb, lt-leb, eq-eqb}
+use Rattle.limits.specs.declared.answer.Answer.{Answer}
+use Rattle.limits.specs.declared.answer.Answer.the-variants.{Done, BadWindow, BadTimes, BadWait, Unsound, OddEvents, PartialRow, ShortAnswers, UnknownKind, BadArgument, WindowFull, NoRowLeft, IllegalCell, DataTableFull, NotOutstanding, AlreadyAcknowledged, TimerRunning, NoMessage, ReplyTableFull, SpanNotOutstanding, NothingReady, RecordFull, UnknownFrame, BadFrameLength, BadFrameWindow, BadFrameNumber, BadFrameLife, BadFrameSpan, ShortBuffer, BadInputLength}
+use Rattle.limits.specs.Answer.{numberOf}
+use Rattle.limits.specs.Questions.{pick, Question, ask, firstNo, Answers, Called, timeQuestions}
+use Rattle.limits.proofs.answer.Answer.{the-type}
+use Rattle.limits.proofs.Laws.Choice.{pick-yes, pick-no}
+
+-- the tags of the answers other than `Done`
+abbrev pub refusals : List ℕ
+refusals = 1 ∷ 2 ∷ 3 ∷ 4 ∷ 5 ∷ 6 ∷ 7 ∷ 8 ∷ 9 ∷ 10 ∷ 11 ∷ 12 ∷ 13 ∷ 14 ∷ 15 ∷ 16 ∷ 17 ∷ 18 ∷ 19 ∷ 20 ∷ 21 ∷ 22 ∷ 23 ∷ 24 ∷ 25 ∷ 26 ∷ 27 ∷ 28 ∷ 29 ∷ []
+
+-- the else of a `let Answer::Done = answer else`
+pub not-done : (a : Answer) → OneOf refusals (tagOf the-type a) → eqb (numberOf a) 0 ≡ false
+not-done Done k = absurd (miss refusals 0 tt k)
+not-done BadWindow k = refl
+not-done BadTimes k = refl
+not-done BadWait k = refl
+not-done Unsound k = refl
+not-done OddEvents k = refl
+not-done PartialRow k = refl
+not-done ShortAnswers k = refl
+not-done UnknownKind k = refl
+not-done BadArgument k = refl
+not-done WindowFull k = refl
+not-done NoRowLeft k = refl
+not-done IllegalCell k = refl
+not-done DataTableFull k = refl
+not-done NotOutstanding k = refl
+not-done AlreadyAcknowledged k = refl
+not-done TimerRunning k = refl
+not-done NoMessage k = refl
+not-done ReplyTableFull k = refl
+not-done SpanNotOutstanding k = refl
+not-done NothingReady k = refl
+not-done RecordFull k = refl
+not-done UnknownFrame k = refl
+not-done BadFrameLength k = refl
+not-done BadFrameWindow k = refl
+not-done BadFrameNumber k = refl
+not-done BadFrameLife k = refl
+not-done BadFrameSpan k = refl
+not-done ShortBuffer k = refl
+not-done BadInputLength k = refl
+
+module _ {X : Type 0} (qs : List Question) (answer : Answer) (shown done refused : X) (first : numberOf answer ≡ firstNo qs) where
+  pub answers-done : numberOf answer ≡ 0 → shown ≡ done → Answers qs answer shown done refused
+  answers-done e s = record { number = first; result = s ∙ sym (pick-yes _ _ _ _ (eq-eqb _ _ (sym first ∙ e)) refl) }
+
+  pub answers-refused : eqb (numberOf answer) 0 ≡ false → shown ≡ refused → Answers qs answer shown done refused
+  answers-refused e s = record { number = first; result = s ∙ sym (pick-no _ _ _ _ (ap (λ n. eqb n 0) (sym first) ∙ e) refl) }
+
+  module _ {S : Type 0} (sound : S → Bool) (before after : S) where
+    pub called-done : numberOf answer ≡ 0 → shown ≡ done → sound after ≡ true → Called qs answer shown done refused sound before after
+    called-done e s h =
+        record {
+          answers = answers-done e s;
+          keeps = record { kept = λ ne. absurd (ne (sym first ∙ e)); stays = λ _. h };
+        }
+
+    pub called-refused : eqb (numberOf answer) 0 ≡ false → shown ≡ refused → after ≡ before → Called qs answer shown done refused sound before after
+    called-refused e s h =
+        record {
+          answers = answers-refused e s;
+          keeps = record { kept = λ _. h; stays = λ b. rw h b };
+        }
+
+-- Question 4 is put first: passed, the call promises what its sound twin does; answered no, it hands everything back.
+module _ (qs : List Question) (s : Bool) where
+  sound-first : s ≡ true → firstNo (ask 4 s ∷ qs) ≡ firstNo qs
+  sound-first e = pick-yes s (firstNo qs) 4 (firstNo qs) e refl
+
+  unsound-first : s ≡ false → 4 ≡ firstNo (ask 4 s ∷ qs)
+  unsound-first e = sym (pick-no s (firstNo qs) 4 4 e refl)
+
+  module _ {X : Type 0} (answer : Answer) (shown done refused : X) where
+    pub answers-sound : s ≡ true → Answers qs answer shown done refused → Answers (ask 4 s ∷ qs) answer shown done refused
+    answers-sound e a =
+        record {
+          number = a .number ∙ sym (sound-first e);
+          result = a .result ∙ ap (λ n. pick (eqb n 0) done refused) (sym (sound-first e));
+        }
+
+    pub answers-unsound : s ≡ false → answer ≡ Unsound → shown ≡ refused → Answers (ask 4 s ∷ qs) answer shown done refused
+    answers-unsound e u h = answers-refused _ _ _ _ _ (ap numberOf u ∙ unsound-first e) (ap (λ a. eqb (numberOf a) 0) u) h
+
+    module _ {S : Type 0} (sound : S → Bool) (before after : S) where
+      pub called-sound : s ≡ true → Called qs answer shown done refused sound before after → Called (ask 4 s ∷ qs) answer shown done refused sound before after
+      called-sound e c =
+          record {
+            answers = answers-sound e (c .answers);
+            keeps = record { kept = λ ne. c .keeps .kept (λ z. ne (sound-first e ∙ z)); stays = c .keeps .stays };
+          }
+
+      pub called-unsound : s ≡ false → answer ≡ Unsound → shown ≡ refused → after ≡ before
+          → Called (ask 4 s ∷ qs) answer shown done refused sound before after
+      called-unsound e u h b =
+          record { answers = answers-unsound e u h; keeps = record { kept = λ _. b; stays = λ p. rw b p } }
+
+-- the one question of a tick
+pub time-passed : (d : ℕ) → 1 ≤ d → 0 ≡ firstNo (timeQuestions d)
+time-passed d h = sym (pick-yes _ _ _ _ (le-leb 1 d h) refl)
+
+pub time-refused : (d : ℕ) → d < 1 → 9 ≡ firstNo (timeQuestions d)
+time-refused d h = sym (pick-no _ _ _ _ (lt-leb 1 d h) refl)

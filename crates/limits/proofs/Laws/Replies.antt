@@ -1,0 +1,26 @@
+-- What question 4 of a message says, fact by fact.
+use Prim.Native.Nat.{_*_, _≤_, _<_}
+use mathlib.Core.Path.{_≡_}
+use mathlib.Core.Bool.{true, _&&_}
+use lib.Dec.{leb, ltb}
+use borrow.Author.Tests.{ltb-true, leb-true}
+use Rattle.limits.specs.declared.Limits.{Limits}
+use Rattle.limits.specs.Tables.{Reply, span, soundReply}
+use Rattle.limits.proofs.Laws.Choice.{and-left, and-right}
+
+pub record ReplyFacts (l : Limits) (x : Reply) : Type 0 where
+  pub first : x .first < 2 * l .window
+  pub last : x .last < 2 * l .window
+  pub span : span (l .window) x ≤ l .window
+
+pub reply-facts : (l : Limits) (x : Reply) → soundReply l x ≡ true → ReplyFacts l x
+unfolding soundReply
+reply-facts l x e =
+    record {
+      first = ltb-true _ _ (and-left (ltb (x .first) (2 * l .window)) _ e);
+      last = ltb-true _ _ (and-left (ltb (x .last) (2 * l .window)) (leb (span (l .window) x) (l .window)) rest);
+      span = leb-true _ _ (and-right (ltb (x .last) (2 * l .window)) (leb (span (l .window) x) (l .window)) rest);
+    }
+  where
+    rest : (ltb (x .last) (2 * l .window) && leb (span (l .window) x) (l .window)) ≡ true
+    rest = and-right (ltb (x .first) (2 * l .window)) _ e

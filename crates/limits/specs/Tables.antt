@@ -1,0 +1,52 @@
+-- The messages in the air. A table is a list of messages, oldest first.
+use Prim.Native.Nat.{ℕ, zero, suc, _-_, _*_, _+_}
+use mathlib.Core.Bool.{Bool, _&&_}
+use mathlib.Core.List.{List, [], _∷_, _++_}
+use lib.Dec.{leb, ltb}
+use Rattle.limits.specs.declared.Limits.{Limits}
+use Rattle.limits.specs.Questions.{pick}
+use Rattle.limits.specs.Cells.{legalRow}
+use Rattle.limits.specs.Ring.{distance}
+
+-- `life` is the ticks that are left to it
+pub record Message (B : Type 0) : Type 0 where
+  pub body : B
+  pub life : ℕ
+
+-- a row under its number (a data packet)
+pub record Data : Type 0 where
+  pub number : ℕ
+  pub row : List ℕ
+
+-- the numbers from first to last (a block acknowledgment)
+pub record Reply : Type 0 where
+  pub first : ℕ
+  pub last : ℕ
+
+abbrev pub capacity : ℕ
+capacity = 32
+
+abbrev pub put : {A : Type 0} → A → List A → List A
+put m ms = ms ++ (m ∷ [])
+
+-- message p, counted from 0, leaves and the gap is closed
+unfoldable pub remove : {A : Type 0} → ℕ → List A → List A
+remove p [] = []
+remove zero (m ∷ ms) = ms
+remove (suc p) (m ∷ ms) = m ∷ remove p ms
+
+-- every life falls by d, and a message whose life was at most d is dropped
+unfoldable pub age : {B : Type 0} → ℕ → List (Message B) → List (Message B)
+age d [] = []
+age d (m ∷ ms) = pick (leb (m .life) d) (age d ms) (record { body = m .body; life = m .life - d } ∷ age d ms)
+
+-- how many numbers a reply covers, read on from first to last
+abbrev pub span : ℕ → Reply → ℕ
+span w r = distance (2 * w) (r .first) (r .last) + 1
+
+-- question 4 of a message: its numbers, and the rest of what it carries
+unfoldable pub soundData : Limits → Data → Bool
+soundData l x = ltb (x .number) (2 * l .window) && legalRow (x .row)
+
+unfoldable pub soundReply : Limits → Reply → Bool
+soundReply l x = ltb (x .first) (2 * l .window) && (ltb (x .last) (2 * l .window) && leb (span (l .window) x) (l .window))

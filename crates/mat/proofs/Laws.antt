@@ -1,0 +1,6 @@
+pub mod Sound
+pub mod Send
+pub mod Resend
+pub mod Acknowledge
+pub mod Tick
+pub mod Calls

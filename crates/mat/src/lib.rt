@@ -1,0 +1,137 @@
+// The mat (sender). Each call puts question 4 first: to the limits, the mat and the message handed to it.
+ghost use mathlib.Core.Path.{_≡_};
+ghost use mathlib.Core.Bool.{_&&_};
+ghost use mathlib.Core.List.{_∷_};
+ghost use Rattle.limits.specs.Questions.{ask, timeQuestions};
+ghost use Rattle.limits.specs.Limits.{soundLimits};
+ghost use Rattle.limits.specs.Tables.{soundReply};
+ghost use Rattle.mat.specs.Rules.{
+  sendQuestions,
+  sending,
+  resendQuestions,
+  resending,
+  acknowledgeQuestions,
+  acknowledging,
+  ticked,
+};
+ghost use Rattle.mat.specs.View.{matState, freshMat, soundMat, SendCall, AcknowledgeCall, TickCall};
+
+pub mod soundmat;
+
+use limits::Limits;
+use limits::answer::Answer;
+
+// `oldest` and `next` are numbers modulo 2w: the first unacknowledged row and the one to be sent. Row m stands at place m mod w,
+// with a mark (acknowledged) and a resend timer (retransmission timer).
+pub struct Mat {
+    pub oldest: usize,
+    pub next: usize,
+    pub marks: [bool; 32],
+    pub timers: [u16; 32],
+    pub cells: [u16; 512],
+}
+
+// `number` and `row` are the message to put in the data table.
+pub struct Sent {
+    pub answer: Answer,
+    pub mat: Mat,
+    pub number: usize,
+    pub row: [u16; 16],
+}
+
+// Oldest rose by `passed` rows.
+pub struct Acknowledged {
+    pub answer: Answer,
+    pub mat: Mat,
+    pub passed: usize,
+}
+
+pub struct Ticked {
+    pub answer: Answer,
+    pub mat: Mat,
+}
+
+pub fn fresh() -> Mat
+    ensures { λ r. ⌜ r ≡ freshMat ⌝ }
+{
+    Mat {
+        oldest: 0,
+        next: 0,
+        marks: [false; 32],
+        timers: [0; 32],
+        cells: [0; 512],
+    }
+}
+
+// Question 4 of limits and a mat.
+pub fn sound(l: Limits, m: Mat) -> bool
+    ensures { λ r. ⌜ r ≡ (soundLimits l && soundMat l m) ⌝ }
+{
+    limits::sound_limits(l) && soundmat::mat_sound(l, m)
+}
+
+// Question 4 of limits, a mat and a message.
+fn sound_with(l: Limits, m: Mat, first: usize, last: usize) -> bool
+    ensures { λ r. ⌜ r ≡ (soundLimits l && (soundMat l m && soundReply l (record { first = first; last = last }))) ⌝ }
+{
+    limits::sound_limits(l)
+        && (soundmat::mat_sound(l, m) && soundmat::message_sound(l, first, last))
+}
+
+// The first row of the supply is sent: 4, 10, 11, 12.
+pub fn send(l: Limits, m: Mat, supply: &[u16]) -> Sent
+    ensures { λ r. ⌜ SendCall l m
+        (ask 4 (soundLimits l && soundMat l m) ∷ sendQuestions l (matState (l .window) m) (now (supply .entry)))
+        (sending l (matState (l .window) m) (now (supply .entry))) r ⌝ }
+{
+    if sound(l, m) {
+        soundmat::send(l, m, supply)
+    } else {
+        soundmat::not_sent(m, Answer::Unsound)
+    }
+}
+
+// The kept row oldest + k is sent again: 4, 14, 15, 16.
+pub fn resend(l: Limits, m: Mat, k: usize) -> Sent
+    ensures { λ r. ⌜ SendCall l m
+        (ask 4 (soundLimits l && soundMat l m) ∷ resendQuestions l (matState (l .window) m) k)
+        (resending l (matState (l .window) m) k) r ⌝ }
+{
+    if sound(l, m) {
+        soundmat::resend(l, m, k)
+    } else {
+        soundmat::not_sent(m, Answer::Unsound)
+    }
+}
+
+// A reply for the numbers from first to last arrives: 4, 19.
+pub fn acknowledge(l: Limits, m: Mat, first: usize, last: usize) -> Acknowledged
+    ensures { λ r. ⌜ AcknowledgeCall l m
+        (ask 4 (soundLimits l && (soundMat l m && soundReply l (record { first = first; last = last })))
+        ∷ acknowledgeQuestions l (matState (l .window) m) (record { first = first; last = last }))
+        (acknowledging l (matState (l .window) m) (record { first = first; last = last })) r ⌝ }
+{
+    if sound_with(l, m, first, last) {
+        soundmat::acknowledge(l, m, first, last)
+    } else {
+        Acknowledged {
+            answer: Answer::Unsound,
+            mat: m,
+            passed: 0,
+        }
+    }
+}
+
+// Every resend timer falls by d: 4, 9.
+pub fn tick(l: Limits, m: Mat, d: u16) -> Ticked
+    ensures { λ r. ⌜ TickCall l m (ask 4 (soundLimits l && soundMat l m) ∷ timeQuestions d) (ticked d (matState (l .window) m)) r ⌝ }
+{
+    if sound(l, m) {
+        soundmat::tick(l, m, d)
+    } else {
+        Ticked {
+            answer: Answer::Unsound,
+            mat: m,
+        }
+    }
+}

@@ -1,0 +1,61 @@
+-- Laws on rows of 16 cells.
+use Prim.Native.Nat.{ℕ, _+_, _-_, _*_, _≤_, _<_}
+use mathlib.Core.Path.{_≡_, sym, _∙_, ap}
+use mathlib.Core.List.{List}
+use native.Mathlib.Omega.{arith}
+use lib.ListN.{length, getD, take, drop, length-take, length-drop}
+use lib.Seq.{ext-getD, getD-take, getD-drop}
+use Rattle.limits.specs.Cells.{rowAt}
+use Rattle.limits.proofs.Laws.Choice.{split}
+use Rattle.rows.specs.Arrays.{changed, from-to, written, fallen}
+use Rattle.rows.proofs.Laws.Changed.{length-changed, changed-at, changed-other, inside, below, above}
+
+pub length-part : (cells : List ℕ) (at : ℕ) → at + 16 ≤ length cells → length (take 16 (drop at cells)) ≡ 16
+length-part cells at h = length-take 16 (drop at cells) ∙ (let l = length-drop at cells in omega arith)
+
+pub length-rowAt : (cells : List ℕ) (p : ℕ) → length cells ≡ 512 → p < 32 → length (rowAt cells p) ≡ 16
+length-rowAt cells p l h = length-part cells (16 * p) (omega arith)
+
+-- the loop that reads a row has read it
+pub read-done : (cells row row₀ : List ℕ) (at : ℕ) → at + 16 ≤ length cells → length row₀ ≡ 16
+    → row ≡ changed 0 (from-to 0 16) (λ k. getD cells (at + k) 0) row₀ → row ≡ take 16 (drop at cells)
+read-done cells row row₀ at h l e =
+    e
+    ∙ ext-getD 0 _ (take 16 (drop at cells)) (length-changed 0 _ _ row₀ ∙ l ∙ sym (length-part cells at h))
+    (λ i k. let n = length-changed 0 (from-to 0 16) (λ k. getD cells (at + k) 0) row₀ in
+    changed-at 0 _ _ row₀ i (omega arith) (inside 0 16 i (omega arith) (omega arith))
+    ∙ sym (getD-take 16 (drop at cells) i 0 (omega arith) ∙ getD-drop at cells i 0))
+
+pub length-written : (at : ℕ) (row cells : List ℕ) → length (written at row cells) ≡ length cells
+unfolding written
+length-written at row cells = length-changed 0 _ _ cells
+
+-- the row that was written, and any row apart from it
+pub written-row : (at : ℕ) (row cells : List ℕ) → at + 16 ≤ length cells → length row ≡ 16 → take 16 (drop at (written at row cells)) ≡ row
+unfolding written
+written-row at row cells h l =
+    ext-getD 0 _ row (length-part (written at row cells) at (let n = length-written at row cells in omega arith) ∙ sym l)
+    (λ i k. let n = length-part (written at row cells) at (let n = length-written at row cells in omega arith) in
+    getD-take 16 (drop at (written at row cells)) i 0 (omega arith)
+    ∙ getD-drop at (written at row cells) i 0
+    ∙ changed-at 0 _ _ cells (at + i) (omega arith) (inside at (at + 16) (at + i) (omega arith) (omega arith))
+    ∙ ap (λ j. getD row j 0) {x = at + i - at} {y = i} (omega arith))
+
+pub written-same : (p : ℕ) (row cells : List ℕ) → length cells ≡ 512 → p < 32 → length row ≡ 16 → rowAt (written (16 * p) row cells) p ≡ row
+written-same p row cells n h l = written-row (16 * p) row cells (omega arith) l
+
+pub written-other : (p q : ℕ) (row cells : List ℕ) → length cells ≡ 512 → q < 32 → (q ≡ p → ⊥) → rowAt (written (16 * p) row cells) q ≡ rowAt cells q
+unfolding written
+written-other p q row cells n h ne =
+    ext-getD 0 _ (rowAt cells q) (length-rowAt (written (16 * p) row cells) q (length-written (16 * p) row cells ∙ n) h ∙ sym (length-rowAt cells q n h))
+    (λ i k. let m = length-rowAt (written (16 * p) row cells) q (length-written (16 * p) row cells ∙ n) h in
+    getD-take 16 (drop (16 * q) (written (16 * p) row cells)) i 0 (omega arith)
+    ∙ getD-drop (16 * q) (written (16 * p) row cells) i 0
+    ∙ changed-other 0 _ _ cells (16 * q + i)
+    (split q p (λ o. below (16 * p) (16 * p + 16) (16 * q + i) (omega arith)) (λ o. above (16 * p) (16 * p + 16) (16 * q + i) (omega arith)))
+    ∙ sym (getD-take 16 (drop (16 * q) cells) i 0 (omega arith) ∙ getD-drop (16 * q) cells i 0))
+
+-- an entry that fell
+pub fallen-at : (n d : ℕ) (xs : List ℕ) (i : ℕ) → n ≤ length xs → i < n → getD (fallen n d xs) i 0 ≡ getD xs i 0 - d
+unfolding fallen
+fallen-at n d xs i l h = changed-at 0 _ _ xs i (omega arith) (inside 0 n i (omega arith) h)

@@ -1,0 +1,131 @@
+// Inner: called by air, mat and pad. Work on rows of 16 cells and on arrays of 32 entries, each helper with what it needs alone.
+ghost use mathlib.Core.Path.{_≡_};
+ghost use Prim.Native.Nat.{_+_, _-_, _*_, _≤_, _<_, _%_};
+ghost use lib.ListN.{length, take, drop, getD};
+ghost use lib.Dec.{leb};
+ghost use Rattle.limits.specs.Lists.{tab, all};
+ghost use Rattle.limits.specs.Cells.{rowAt, legalRow};
+ghost use Rattle.rows.specs.Arrays.{written, fallen, closed, spanSet};
+
+// The 16 cells from `at` on.
+pub fn read(cells: &[u16], at: usize) -> [u16; 16]
+    requires { ⌜ at + 16 ≤ length (now cells) ⌝ }
+    ensures { λ r. ⌜ r ≡ take 16 (drop at (now (cells .entry))) ⌝ }
+{
+    let mut row = [0u16; 16];
+    let mut i = 0;
+    while i < 16 {
+        row[i] = cells[at + i];
+        i += 1;
+    }
+    row
+}
+
+pub fn write(cells: &mut [u16], at: usize, row: [u16; 16])
+    requires { ⌜ at + 16 ≤ length (now cells) ⌝ }
+    ensures { λ _. ⌜ now (cells .exit) ≡ written at row (now (cells .entry)) ⌝ }
+{
+    let mut i = 0;
+    while i < 16 {
+        cells[at + i] = row[i];
+        i += 1;
+    }
+}
+
+pub fn load(cells: &[u16; 512], place: usize) -> [u16; 16]
+    requires { ⌜ place < 32 ⌝ }
+    ensures { λ r. ⌜ r ≡ rowAt (now (cells .entry)) place ⌝ }
+{
+    read(cells, 16 * place)
+}
+
+pub fn store(cells: &mut [u16; 512], place: usize, row: [u16; 16])
+    requires { ⌜ place < 32 ⌝ }
+    ensures { λ _. ⌜ now (cells .exit) ≡ written (16 * place) row (now (cells .entry)) ⌝ }
+{
+    write(cells, 16 * place, row);
+}
+
+pub fn legal_row(row: [u16; 16]) -> bool
+    ensures { λ r. ⌜ r ≡ legalRow row ⌝ }
+{
+    let mut i = 0;
+    while i < 16 {
+        let cell = row[i];
+        if limits::cells::legal(cell) {
+            i += 1;
+        } else {
+            return false;
+        }
+    }
+    true
+}
+
+// Whether the first `n` entries are at most `most`.
+pub fn at_most(xs: &[u16; 32], n: usize, most: u16) -> bool
+    requires { ⌜ n ≤ 32 ⌝ }
+    ensures { λ r. ⌜ r ≡ all (λ x. leb x most) (tab n (λ i. getD (now (xs .entry)) i 0)) ⌝ }
+{
+    let mut i = 0;
+    while i < n {
+        if xs[i] <= most {
+            i += 1;
+        } else {
+            return false;
+        }
+    }
+    true
+}
+
+fn less(x: u16, d: u16) -> u16
+    ensures { λ r. ⌜ r ≡ x - d ⌝ }
+{
+    if d <= x { x - d } else { 0 }
+}
+
+// The first `n` entries fall by `d` and stop at 0.
+pub fn fall(xs: &mut [u16; 32], n: usize, d: u16)
+    requires { ⌜ n ≤ 32 ⌝ }
+    ensures { λ _. ⌜ now (xs .exit) ≡ fallen n d (now (xs .entry)) ⌝ }
+{
+    let mut i = 0;
+    while i < n {
+        xs[i] = less(xs[i], d);
+        i += 1;
+    }
+}
+
+// Closes the gap of `width` entries at `at` in the first `end`.
+pub fn close(xs: &mut [u16], at: usize, width: usize, end: usize)
+    requires { ⌜ (at + width ≤ end) × (end ≤ length (now xs)) ⌝ }
+    ensures { λ _. ⌜ now (xs .exit) ≡ closed at width end (now (xs .entry)) ⌝ }
+{
+    let last = end - width;
+    let mut i = at;
+    while i < last {
+        xs[i] = xs[i + width];
+        i += 1;
+    }
+}
+
+// The place behind `at`, round the ring.
+pub fn after(w: usize, at: usize) -> usize
+    requires { ⌜ (at < w) × (w ≤ 32) ⌝ }
+    ensures { λ r. ⌜ r ≡ (at + 1) % w ⌝ }
+{
+    if at + 1 < w { at + 1 } else { 0 }
+}
+
+// Sets the places of `count` numbers from `from` on, `from` below w.
+pub fn set_span(marks: &mut [bool; 32], w: usize, from: usize, count: usize, value: bool)
+    requires { ⌜ (w ≤ 32) × (from < w) × (count ≤ w) ⌝ }
+    ensures { λ _. ⌜ now (marks .exit) ≡ spanSet w from count value (now (marks .entry)) ⌝ }
+{
+    let mut at = from;
+    let mut i = 0;
+    while i < count {
+        marks[at] = value;
+        at = after(w, at);
+        i += 1;
+    }
+}
