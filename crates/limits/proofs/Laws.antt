@@ -4,4 +4,4 @@ pub mod Lists
 pub mod Tables
 pub mod Good
 pub mod Promise
-pub mod Replies
+pub mod Messages

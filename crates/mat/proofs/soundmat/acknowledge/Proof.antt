@@ -1,6 +1,6 @@
 use Rattle.mat.proofs.Laws.Calls.{span-yes, span-no, passing-span}
 use Rattle.limits.proofs.Laws.Ring.{distance-below}
-use Rattle.limits.proofs.Laws.Replies.{reply-facts}
+use Rattle.limits.proofs.Laws.Messages.{reply-facts}
 use Rattle.limits.proofs.Laws.Promise.{called-done, called-refused}
 use Rattle.limits.proofs.Laws.Choice.{pick-yes, pick-no}
 use Rattle.limits.specs.Answer.{numberOf}

@@ -1,11 +1,13 @@
 -- What question 4 of a message says, fact by fact.
-use Prim.Native.Nat.{_*_, _≤_, _<_}
+use Prim.Native.Nat.{ℕ, _*_, _≤_, _<_}
 use mathlib.Core.Path.{_≡_}
 use mathlib.Core.Bool.{true, _&&_}
+use mathlib.Core.List.{List}
+use Rattle.limits.specs.Cells.{legalRow}
 use lib.Dec.{leb, ltb}
 use borrow.Author.Tests.{ltb-true, leb-true}
 use Rattle.limits.specs.declared.Limits.{Limits}
-use Rattle.limits.specs.Tables.{Reply, span, soundReply}
+use Rattle.limits.specs.Tables.{Reply, span, soundReply, soundData}
 use Rattle.limits.proofs.Laws.Choice.{and-left, and-right}
 
 pub record ReplyFacts (l : Limits) (x : Reply) : Type 0 where
@@ -24,3 +26,11 @@ reply-facts l x e =
   where
     rest : (ltb (x .last) (2 * l .window) && leb (span (l .window) x) (l .window)) ≡ true
     rest = and-right (ltb (x .first) (2 * l .window)) _ e
+
+pub message-low : (l : Limits) (number : ℕ) (row : List ℕ) → soundData l (record { number = number; row = row }) ≡ true → number < 2 * l .window
+unfolding soundData
+message-low l number row e = ltb-true _ _ (and-left (ltb number (2 * l .window)) _ e)
+
+pub message-legal : (l : Limits) (number : ℕ) (row : List ℕ) → soundData l (record { number = number; row = row }) ≡ true → legalRow row ≡ true
+unfolding soundData
+message-legal l number row e = and-right (ltb number (2 * l .window)) _ e

@@ -1,0 +1,9 @@
+pub mod Shifted
+pub mod Slots
+pub mod Sound
+pub mod Arriving
+pub mod Ticking
+pub mod Joined
+pub mod Run
+pub mod Passing
+pub mod Refused

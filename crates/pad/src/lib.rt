@@ -1,0 +1,133 @@
+// The pad (receiver). Each call puts question 4 first: to the limits, the pad and the message handed to it.
+ghost use mathlib.Core.Path.{_≡_};
+ghost use mathlib.Core.Bool.{_&&_};
+ghost use mathlib.Core.List.{[], _∷_};
+ghost use lib.ListN.{length};
+ghost use Rattle.limits.specs.Questions.{ask, Answers, timeQuestions};
+ghost use Rattle.limits.specs.Limits.{soundLimits};
+ghost use Rattle.limits.specs.Tables.{soundData};
+ghost use Rattle.pad.specs.Rules.{arrival, run, runQuestions, replyQuestions, replying, ticked};
+ghost use Rattle.pad.specs.View.{padState, freshPad, soundPad, ArriveCall, ReplyCall, TickCall};
+
+pub mod soundpad;
+
+use limits::Limits;
+use limits::answer::Answer;
+
+// `wanted` is the number, modulo 2w, of the first row that is not recorded. Row m stands at place m mod w, with a mark (held)
+// and a reply timer.
+pub struct Pad {
+    pub wanted: usize,
+    pub held: [bool; 32],
+    pub timers: [u16; 32],
+    pub cells: [u16; 512],
+}
+
+// Where the row was an old one, `first` and `last` are the reply to put.
+pub struct Arrived {
+    pub answer: Answer,
+    pub pad: Pad,
+    pub old: bool,
+    pub first: usize,
+    pub last: usize,
+}
+
+pub struct RunLength {
+    pub answer: Answer,
+    pub count: usize,
+}
+
+// `count` rows were recorded, and `first` and `last` are the reply to put.
+pub struct Replied {
+    pub answer: Answer,
+    pub pad: Pad,
+    pub count: usize,
+    pub first: usize,
+    pub last: usize,
+}
+
+pub struct Ticked {
+    pub answer: Answer,
+    pub pad: Pad,
+}
+
+pub fn fresh() -> Pad
+    ensures { λ r. ⌜ r ≡ freshPad ⌝ }
+{
+    Pad {
+        wanted: 0,
+        held: [false; 32],
+        timers: [0; 32],
+        cells: [0; 512],
+    }
+}
+
+// Question 4 of limits and a pad.
+pub fn sound(l: Limits, p: Pad) -> bool
+    ensures { λ r. ⌜ r ≡ (soundLimits l && soundPad l p) ⌝ }
+{
+    limits::sound_limits(l) && soundpad::pad_sound(l, p)
+}
+
+// Question 4 of limits, a pad and a message.
+fn sound_with(l: Limits, p: Pad, number: usize, row: [u16; 16]) -> bool
+    ensures { λ r. ⌜ r ≡ (soundLimits l && (soundPad l p && soundData l (record { number = number; row = row }))) ⌝ }
+{
+    limits::sound_limits(l)
+        && (soundpad::pad_sound(l, p) && soundpad::message_sound(l, number, row))
+}
+
+// Data arrives: 4. The row is held, or it is an old one and a reply for it is to be put.
+pub fn arrive(l: Limits, p: Pad, number: usize, row: [u16; 16]) -> Arrived
+    ensures { λ r. ⌜ ArriveCall l p
+        (ask 4 (soundLimits l && (soundPad l p && soundData l (record { number = number; row = row }))) ∷ [])
+        (arrival l (padState (l .window) p) (record { number = number; row = row })) r ⌝ }
+{
+    if sound_with(l, p, number, row) {
+        soundpad::arrive(l, p, number, row)
+    } else {
+        soundpad::not_arrived(p, Answer::Unsound)
+    }
+}
+
+// How many rows a reply would record: 4, 20.
+pub fn run_length(l: Limits, p: Pad) -> RunLength
+    ensures { λ r. ⌜ Answers (ask 4 (soundLimits l && soundPad l p) ∷ runQuestions (padState (l .window) p))
+        (r .answer) (r .count) (run (padState (l .window) p)) 0 ⌝ }
+{
+    if sound(l, p) {
+        soundpad::run_length(l, p)
+    } else {
+        RunLength {
+            answer: Answer::Unsound,
+            count: 0,
+        }
+    }
+}
+
+// A reply for the run of rows at wanted, which are written to the front of `buffer`: 4, 20, 21.
+pub fn reply(l: Limits, p: Pad, buffer: &mut [u16]) -> Replied
+    ensures { λ r. ⌜ ReplyCall l p (now (buffer .entry)) (now (buffer .exit))
+        (ask 4 (soundLimits l && soundPad l p) ∷ replyQuestions (padState (l .window) p) (length (now (buffer .entry))))
+        (replying l (padState (l .window) p) (now (buffer .entry))) r ⌝ }
+{
+    if sound(l, p) {
+        soundpad::reply(l, p, buffer)
+    } else {
+        soundpad::not_replied(p, Answer::Unsound)
+    }
+}
+
+// Every reply timer falls by d: 4, 9.
+pub fn tick(l: Limits, p: Pad, d: u16) -> Ticked
+    ensures { λ r. ⌜ TickCall l p (ask 4 (soundLimits l && soundPad l p) ∷ timeQuestions d) (ticked d (padState (l .window) p)) r ⌝ }
+{
+    if sound(l, p) {
+        soundpad::tick(l, p, d)
+    } else {
+        Ticked {
+            answer: Answer::Unsound,
+            pad: p,
+        }
+    }
+}
