@@ -2,3 +2,4 @@ pub mod Arrays
 pub mod Sound
 pub mod Data
 pub mod Replies
+pub mod Fresh

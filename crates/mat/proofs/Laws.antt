@@ -1,4 +1,5 @@
 pub mod Sound
+pub mod Fresh
 pub mod Send
 pub mod Resend
 pub mod Acknowledge

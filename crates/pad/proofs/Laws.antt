@@ -7,3 +7,4 @@ pub mod Joined
 pub mod Run
 pub mod Passing
 pub mod Refused
+pub mod Fresh

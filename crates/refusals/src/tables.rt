@@ -1,0 +1,157 @@
+// The calls of the two tables.
+use crate::limit;
+use crate::print::line;
+use air::datatable;
+use air::datatable::DataMessage;
+use air::datatable::DataTable;
+use air::replytable;
+use air::replytable::ReplyMessage;
+use air::replytable::ReplyTable;
+use limits::Limits;
+
+fn put_data(what: &[u8], l: Limits, t: DataTable, number: usize, life: u16, cell: u16) {
+    let r = datatable::put(
+        l,
+        t,
+        DataMessage {
+            number,
+            life,
+            row: [cell; 16],
+        },
+    );
+    let answer = r.answer;
+    line(what, answer);
+}
+
+fn remove_data(what: &[u8], l: Limits, t: DataTable, p: usize) {
+    let r = datatable::remove(l, t, p);
+    let answer = r.answer;
+    line(what, answer);
+}
+
+fn read_data(what: &[u8], l: Limits, t: DataTable, p: usize) {
+    let r = datatable::read(l, t, p);
+    let answer = r.answer;
+    line(what, answer);
+}
+
+fn tick_data(what: &[u8], l: Limits, t: DataTable, d: u16) {
+    let r = datatable::tick(l, t, d);
+    let answer = r.answer;
+    line(what, answer);
+}
+
+// A data table of `count` messages, each with a life of 1.
+fn data_of(count: usize) -> DataTable {
+    let mut t = datatable::empty();
+    t.count = count;
+    t.lives = [1; 32];
+    t
+}
+
+pub fn data_tries() {
+    let l = limit::of(2, 1, 4);
+    put_data(
+        b"data put, w 0",
+        limit::of(0, 1, 4),
+        datatable::empty(),
+        0,
+        1,
+        5,
+    );
+    put_data(b"data put, number 2w", l, datatable::empty(), 4, 1, 5);
+    put_data(b"data put, life 0", l, datatable::empty(), 0, 0, 5);
+    put_data(b"data put, life 2 of 1", l, datatable::empty(), 0, 2, 5);
+    put_data(b"data put, cell 4096", l, datatable::empty(), 0, 1, 4096);
+    put_data(b"data put, 31 messages", l, data_of(31), 0, 1, 5);
+    put_data(b"data put, 32 messages", l, data_of(32), 0, 1, 5);
+    put_data(b"data put, count 33", l, data_of(33), 0, 1, 5);
+    remove_data(
+        b"data remove, count largest",
+        l,
+        data_of(18446744073709551615),
+        0,
+    );
+    remove_data(b"data remove, p at the count", l, data_of(3), 3);
+    remove_data(
+        b"data remove, p largest",
+        l,
+        data_of(3),
+        18446744073709551615,
+    );
+    remove_data(b"data remove, last message", l, data_of(3), 2);
+    read_data(b"data read, empty table", l, datatable::empty(), 0);
+    read_data(b"data read, wait 3", limit::of(2, 1, 3), data_of(1), 0);
+    tick_data(b"data tick 0", l, data_of(3), 0);
+    tick_data(b"data tick 65535", l, data_of(32), 65535);
+}
+
+fn put_reply(what: &[u8], l: Limits, t: ReplyTable, first: usize, last: usize, life: u16) {
+    let r = replytable::put(l, t, ReplyMessage { first, last, life });
+    let answer = r.answer;
+    line(what, answer);
+}
+
+fn remove_reply(what: &[u8], l: Limits, t: ReplyTable, p: usize) {
+    let r = replytable::remove(l, t, p);
+    let answer = r.answer;
+    line(what, answer);
+}
+
+fn read_reply(what: &[u8], l: Limits, t: ReplyTable, p: usize) {
+    let r = replytable::read(l, t, p);
+    let answer = r.answer;
+    line(what, answer);
+}
+
+fn tick_reply(what: &[u8], l: Limits, t: ReplyTable, d: u16) {
+    let r = replytable::tick(l, t, d);
+    let answer = r.answer;
+    line(what, answer);
+}
+
+// A reply table of `count` messages, each with a life of 1.
+fn replies_of(count: usize) -> ReplyTable {
+    let mut t = replytable::empty();
+    t.count = count;
+    t.lives = [1; 32];
+    t
+}
+
+pub fn reply_tries() {
+    let l = limit::of(2, 1, 4);
+    put_reply(
+        b"reply put, w 33",
+        limit::of(33, 1, 4),
+        replytable::empty(),
+        0,
+        0,
+        1,
+    );
+    put_reply(b"reply put, last 2w", l, replytable::empty(), 0, 4, 1);
+    put_reply(b"reply put, span 3 of 2", l, replytable::empty(), 3, 1, 1);
+    put_reply(b"reply put, life 0", l, replytable::empty(), 0, 0, 0);
+    put_reply(
+        b"reply put, span over the ring's end",
+        l,
+        replytable::empty(),
+        3,
+        0,
+        1,
+    );
+    put_reply(b"reply put, 31 messages", l, replies_of(31), 0, 0, 1);
+    put_reply(b"reply put, 32 messages", l, replies_of(32), 0, 0, 1);
+    put_reply(b"reply put, count 33", l, replies_of(33), 0, 0, 1);
+    remove_reply(
+        b"reply remove, count largest",
+        l,
+        replies_of(18446744073709551615),
+        0,
+    );
+    remove_reply(b"reply remove, p at the count", l, replies_of(3), 3);
+    remove_reply(b"reply remove, last message", l, replies_of(3), 2);
+    read_reply(b"reply read, empty table", l, replytable::empty(), 0);
+    read_reply(b"reply read, times 0", limit::of(2, 0, 4), replies_of(1), 0);
+    tick_reply(b"reply tick 0", l, replies_of(3), 0);
+    tick_reply(b"reply tick 65535", l, replies_of(32), 65535);
+}
