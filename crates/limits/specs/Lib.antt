@@ -5,3 +5,4 @@ pub mod Cells
 pub mod Ring
 pub mod Limits
 pub mod Tables
+pub mod Events

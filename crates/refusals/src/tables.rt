@@ -49,6 +49,20 @@ fn data_of(count: usize) -> DataTable {
     t
 }
 
+// Tables whose one message has a life of 0, or the number 4.
+fn data_unsound() {
+    let l = limit::of(2, 1, 4);
+    let mut t = datatable::empty();
+    t.count = 1;
+    remove_data(b"data remove, life 0 in the table", l, t, 0);
+    t = data_of(1);
+    t.numbers[0] = 4;
+    tick_data(b"data tick, number 2w in the table", l, t, 1);
+    t = data_of(1);
+    t.cells[15] = 4096;
+    read_data(b"data read, cell 4096 in the table", l, t, 0);
+}
+
 pub fn data_tries() {
     let l = limit::of(2, 1, 4);
     put_data(
@@ -84,6 +98,7 @@ pub fn data_tries() {
     read_data(b"data read, wait 3", limit::of(2, 1, 3), data_of(1), 0);
     tick_data(b"data tick 0", l, data_of(3), 0);
     tick_data(b"data tick 65535", l, data_of(32), 65535);
+    data_unsound();
 }
 
 fn put_reply(what: &[u8], l: Limits, t: ReplyTable, first: usize, last: usize, life: u16) {
@@ -116,6 +131,19 @@ fn replies_of(count: usize) -> ReplyTable {
     t.count = count;
     t.lives = [1; 32];
     t
+}
+
+fn replies_unsound() {
+    let l = limit::of(2, 1, 4);
+    let mut t = replytable::empty();
+    t.count = 1;
+    remove_reply(b"reply remove, life 0 in the table", l, t, 0);
+    t = replies_of(1);
+    t.firsts[0] = 4;
+    tick_reply(b"reply tick, number 2w in the table", l, t, 1);
+    t = replies_of(1);
+    t.lasts[0] = 2;
+    read_reply(b"reply read, span 3 of 2 in the table", l, t, 0);
 }
 
 pub fn reply_tries() {
@@ -154,4 +182,5 @@ pub fn reply_tries() {
     read_reply(b"reply read, times 0", limit::of(2, 0, 4), replies_of(1), 0);
     tick_reply(b"reply tick 0", l, replies_of(3), 0);
     tick_reply(b"reply tick 65535", l, replies_of(32), 65535);
+    replies_unsound();
 }
