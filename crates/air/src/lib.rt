@@ -1,7 +1,6 @@
 // The messages in the air: a data table and a reply table, each with places for 32 messages, oldest first.
 ghost use mathlib.Core.Path.{_≡_};
 ghost use lib.Dec.{ltb};
-ghost use Rattle.limits.specs.Limits.{between};
 
 pub mod datatable;
 pub mod replytable;
@@ -12,12 +11,6 @@ fn wide(x: u16) -> usize
     ensures { λ r. ⌜ r ≡ x ⌝ }
 {
     x as usize
-}
-
-fn life_fits(most: u16, life: u16) -> bool
-    ensures { λ r. ⌜ r ≡ between 1 most life ⌝ }
-{
-    1 <= life && life <= most
 }
 
 // A message whose life is at most d is dropped by a tick of d.

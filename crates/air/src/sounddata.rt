@@ -31,7 +31,7 @@ pub fn message_sound(l: Limits, m: DataMessage) -> bool
     ensures { λ r. ⌜ r ≡ soundDataMessage l (dataMessage m) ⌝ }
 {
     let row = m.row;
-    crate::life_fits(l.datalife, m.life) && (m.number < 2 * l.window && rows::legal_row(row))
+    limits::within(1, l.datalife, m.life) && (m.number < 2 * l.window && rows::legal_row(row))
 }
 
 pub fn table_sound(l: Limits, t: DataTable) -> bool

@@ -29,7 +29,7 @@ pub fn message_sound(l: Limits, m: ReplyMessage) -> bool
     ensures { λ r. ⌜ r ≡ soundReplyMessage l (replyMessage m) ⌝ }
 {
     let n = 2 * l.window;
-    crate::life_fits(l.replylife, m.life)
+    limits::within(1, l.replylife, m.life)
         && (m.first < n && (m.last < n && limits::ring::gap(n, m.first, m.last) + 1 <= l.window))
 }
 

@@ -37,13 +37,14 @@ pub struct Accepted {
     pub limits: Limits,
 }
 
-fn window_fits(w: usize) -> bool
+// Question 1 of a window, of a link or of a frame.
+pub fn window_fits(w: usize) -> bool
     ensures { λ r. ⌜ r ≡ windowFits w ⌝ }
 {
     1 <= w && w <= 32
 }
 
-fn within(low: u16, high: u16, x: u16) -> bool
+pub fn within(low: u16, high: u16, x: u16) -> bool
     ensures { λ r. ⌜ r ≡ between low high x ⌝ }
 {
     low <= x && x <= high

@@ -33,11 +33,11 @@ listE =
 
 -- E: all 0; the last reply covers row 2 alone, though row 3 is held. Sent 4, acknowledged 2, recorded 3.
 pub case-E : (asked 2 listE ≡ replicate 16 0)
-  × (left 2 listE .replyTable ≡ record { body = record { first = 2; last = 2 }; life = 1 } ∷ [])
-  × (left 2 listE .next ≡ 4)
-  × (left 2 listE .oldest ≡ 2)
-  × (left 2 listE .wanted ≡ 3)
-  × (length (left 2 listE .recorded) ≡ 48)
+    × (left 2 listE .replyTable ≡ record { body = record { first = 2; last = 2 }; life = 1 } ∷ [])
+    × (left 2 listE .next ≡ 4)
+    × (left 2 listE .oldest ≡ 2)
+    × (left 2 listE .wanted ≡ 3)
+    × (length (left 2 listE .recorded) ≡ 48)
 unfolding answers afterAll after event pick at tab all leading joined legalCell remove age
 case-E = (refl, refl, refl, refl, refl, refl)
 
@@ -64,8 +64,8 @@ listI2 = 1 ∷ 0 ∷ 1 ∷ 0 ∷ 3 ∷ 0 ∷ 4 ∷ 0 ∷ 3 ∷ 0 ∷ 4 ∷ 0 ∷
 
 -- I: the later row is acknowledged first and both stay outstanding; 2 1 gives 15; then 5 0 lets both pass.
 pub case-I : (left 2 listI .next - left 2 listI .oldest ≡ 2)
-  × (asked 2 listI2 ≡ 0 ∷ 0 ∷ 0 ∷ 0 ∷ 0 ∷ 0 ∷ 0 ∷ 15 ∷ 0 ∷ [])
-  × (left 2 listI2 .next - left 2 listI2 .oldest ≡ 0)
+    × (asked 2 listI2 ≡ 0 ∷ 0 ∷ 0 ∷ 0 ∷ 0 ∷ 0 ∷ 0 ∷ 15 ∷ 0 ∷ [])
+    × (left 2 listI2 .next - left 2 listI2 .oldest ≡ 0)
 unfolding answers afterAll after event pick at tab all leading joined legalCell remove age
 case-I = (refl, refl, refl)
 

@@ -25,20 +25,20 @@ pub record Ends : Type 0 where
 
 abbrev pub fresh : Ends
 fresh =
-    record
-      { oldest = 0
-      ; next = 0
-      ; wanted = 0
-      ; acknowledged = λ m. false
-      ; resendTimer = λ m. 0
-      ; keptRow = λ m. []
-      ; held = λ m. false
-      ; replyTimer = λ m. 0
-      ; heldRow = λ m. []
-      ; dataTable = []
-      ; replyTable = []
-      ; recorded = []
-      }
+    record {
+      oldest = 0;
+      next = 0;
+      wanted = 0;
+      acknowledged = λ m. false;
+      resendTimer = λ m. 0;
+      keptRow = λ m. [];
+      held = λ m. false;
+      replyTimer = λ m. 0;
+      heldRow = λ m. [];
+      dataTable = [];
+      replyTable = [];
+      recorded = [];
+    }
 
 -- `f` with `v` at number m
 unfoldable pub at : {A : Type 0} → ℕ → A → (ℕ → A) → ℕ → A

@@ -9,8 +9,8 @@ use Rattle.air.specs.Rules.{soundMessage}
 use Rattle.air.proofs.sounddata.message_sound.Statement.{statement}
 use Rattle.air.proofs.sounddata.message_sound.Tie as tie
 
-life-fits-requires : tie.Need-life-fits-requires
-life-fits-requires c κs = search needs
+within-requires : tie.Need-within-requires
+within-requires c κs = search needs
 
 mul-if2 : tie.Need-mul-if2
 mul-if2 c = let g = good _ (c .before .before .before .before .pre) in omega arith
@@ -20,16 +20,16 @@ legal-row-requires c κs = search needs
 
 returns : tie.Need-returns
 unfolding soundMessage soundData
-returns c = c .legal-row .ensures ∙ and-goes-on _ _ (lt-ltb _ _ (c .before .if2 .taken)) ∙ and-goes-on _ _ (sym (c .before .before .before .before .before .life-fits .ensures) ∙ c .before .before .before .before .if1 .taken)
+returns c = c .legal-row .ensures ∙ and-goes-on _ _ (lt-ltb _ _ (c .before .if2 .taken)) ∙ and-goes-on _ _ (sym (c .before .before .before .before .before .within .ensures) ∙ c .before .before .before .before .if1 .taken)
 
 returns-2 : tie.Need-returns-2
 unfolding soundMessage soundData
-returns-2 c = and-stops _ _ (le-ltb _ _ (c .if2 .left)) ∙ and-goes-on _ _ (sym (c .before .before .before .before .life-fits .ensures) ∙ c .before .before .before .if1 .taken)
+returns-2 c = and-stops _ _ (le-ltb _ _ (c .if2 .left)) ∙ and-goes-on _ _ (sym (c .before .before .before .before .within .ensures) ∙ c .before .before .before .if1 .taken)
 
 returns-3 : tie.Need-returns-3
 unfolding soundMessage
-returns-3 c = c .before .life-fits .ensures ∙ and-stops _ _ (sym (c .before .life-fits .ensures) ∙ c .if1 .left)
+returns-3 c = c .before .within .ensures ∙ and-stops _ _ (sym (c .before .within .ensures) ∙ c .if1 .left)
 
 pub message-sound-spec : {M : Type 1} → statement M
 message-sound-spec =
-    tie.close (tie.spec life-fits-requires mul-if2 legal-row-requires returns returns-2 returns-3)
+    tie.close (tie.spec within-requires mul-if2 legal-row-requires returns returns-2 returns-3)

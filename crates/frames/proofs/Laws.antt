@@ -1,0 +1,6 @@
+pub mod Questions
+pub mod Values
+pub mod Cells
+pub mod Reading
+pub mod Writing
+pub mod Bytes

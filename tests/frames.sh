@@ -1,0 +1,7 @@
+#!/usr/bin/env bash
+# The proved frame reader and writer against a second implementation.
+set -euo pipefail
+mkdir -p target
+rt check framecheck >target/framecheck.log 2>&1 || { tail -n 20 target/framecheck.log; exit 1; }
+rustc --edition 2021 -O -o target/frames tests/frames.rs
+target/frames target/bin/framecheck
