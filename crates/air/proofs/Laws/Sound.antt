@@ -28,11 +28,11 @@ module _ {A : Type 0} (n : ℕ) (f : ℕ → A) where
   pub room-refused : (code : ℕ) → 32 ≤ n → code ≡ firstNo (roomQuestions code (tab n f))
   room-refused code h = sym (pick-no _ _ _ _ (sym room-test ∙ le-ltb n 32 h) refl)
 
-  pub place-passed : (p : ℕ) → p < n → 0 ≡ firstNo (placeQuestions p (tab n f))
-  place-passed p h = sym (pick-yes _ _ _ _ (ap (ltb p) (length-tab n f) ∙ lt-ltb p n h) refl)
-
   pub place-refused : (p : ℕ) → n ≤ p → 17 ≡ firstNo (placeQuestions p (tab n f))
   place-refused p h = sym (pick-no _ _ _ _ (ap (ltb p) (length-tab n f) ∙ le-ltb p n h) refl)
+
+  pub place-passed : (p : ℕ) → p < n → 0 ≡ firstNo (placeQuestions p (tab n f))
+  place-passed p h = sym (pick-yes _ _ _ _ (ap (ltb p) (length-tab n f) ∙ lt-ltb p n h) refl)
 
 -- what removing and aging leave of a list
 module _ {A : Type 0} (ok : A → Bool) where
@@ -72,6 +72,10 @@ module _ {B : Type 0} (sound : B → Bool) (most : ℕ) where
       (λ q. rw q rest)
       (λ q. rw q (both _ _ (aged-sound d m (and-left (soundMessage sound most m) _ e) (leb-false (m .life) d q)) rest))
 
+  pub sound-is : (ms : List (Message B)) → length ms ≤ 32 → all (soundMessage sound most) ms ≡ true → soundMessages sound most ms ≡ true
+  unfolding soundMessages
+  sound-is ms h e = both _ _ (le-leb (length ms) 32 h) e
+
   pub sound-few : (ms : List (Message B)) → soundMessages sound most ms ≡ true → length ms ≤ 32
   unfolding soundMessages
   sound-few ms e = leb-true (length ms) 32 (and-left (leb (length ms) 32) _ e)
@@ -79,10 +83,6 @@ module _ {B : Type 0} (sound : B → Bool) (most : ℕ) where
   pub sound-all : (ms : List (Message B)) → soundMessages sound most ms ≡ true → all (soundMessage sound most) ms ≡ true
   unfolding soundMessages
   sound-all ms e = and-right (leb (length ms) 32) _ e
-
-  pub sound-is : (ms : List (Message B)) → length ms ≤ 32 → all (soundMessage sound most) ms ≡ true → soundMessages sound most ms ≡ true
-  unfolding soundMessages
-  sound-is ms h e = both _ _ (le-leb (length ms) 32 h) e
 
   -- each event leaves a sound table sound
   pub put-sound : (m : Message B) (n : ℕ) (f : ℕ → Message B) → soundMessages sound most (tab n f) ≡ true → soundMessage sound most m ≡ true → n < 32

@@ -1,3 +1,4 @@
+use Prim.Native.Nat.{_<_}
 use mathlib.Core.Path.{refl}
 use native.Mathlib.Omega.{arith}
 use borrow.Author.Needs.{needs}
@@ -31,8 +32,9 @@ add-next c = search needs
 
 returns : tie.Need-returns
 unfolding dataMessages soundDataTable
-returns c = let e = data-put (c .before .before .before .before .before .args .t .numbers) (c .before .before .before .before .before .args .t .lives) (c .before .before .before .before .before .args .t .cells) (search needs) (search needs) (search needs) _ _ _ _ _ (c .store .ensures) (c .before .before .before .before .if1 .taken) (search needs) in
-    called-done _ _ _ _ _ (room-passed _ _ 13 (c .before .before .before .before .if1 .taken)) _ _ _ refl e (leaves _ _ _ _ e (put-sound _ _ _ _ _ (c .before .before .before .before .before .pre .1) (c .before .before .before .before .before .pre .2) (c .before .before .before .before .if1 .taken)))
+returns c = let k : c .before .before .before .before .before .args .t .count < 32 = omega arith in
+    let e = data-put (c .before .before .before .before .before .args .t .numbers) (c .before .before .before .before .before .args .t .lives) (c .before .before .before .before .before .args .t .cells) (search needs) (search needs) (search needs) _ _ _ _ _ (c .store .ensures) k (search needs) in
+    called-done _ _ _ _ _ (room-passed _ _ 13 k) _ _ _ refl e (leaves _ _ _ _ e (put-sound _ _ _ _ _ (c .before .before .before .before .before .pre .1) (c .before .before .before .before .before .pre .2) k))
 
 returns-2 : tie.Need-returns-2
 unfolding dataMessages

@@ -1,10 +1,10 @@
+use Rattle.air.proofs.Laws.Replies.{gap-below}
 use lib.Dec.{leb}
 use borrow.Author.Tests.{lt-ltb, le-ltb}
 use mathlib.Core.Path.{sym, _∙_, ap}
 use Prim.Native.Nat.{_+_}
 use native.Mathlib.Omega.{arith}
 use borrow.Author.Needs.{needs}
-use Rattle.limits.proofs.Laws.Ring.{distance-below}
 use Rattle.limits.proofs.Laws.Good.{good}
 use Rattle.limits.proofs.Laws.Choice.{and-goes-on, and-stops}
 use Rattle.limits.specs.Tables.{soundReply}
@@ -19,10 +19,10 @@ within-requires : tie.Need-within-requires
 within-requires c κs = search needs
 
 gap-requires : tie.Need-gap-requires
-gap-requires c κs = let g = good _ (c .before .before .before .before .before .before .before .pre) in (omega arith, c .before .before .if2 .taken, c .if3 .taken)
+gap-requires c κs = let g = good _ (c .before .before .before .before .before .before .before .pre) in (omega arith, omega arith, omega arith)
 
 add-result : tie.Need-add-result
-add-result c = let g = good _ (c .before .before .before .before .before .before .before .before .pre) in let h = distance-below _ _ _ (c .before .before .before .if2 .taken) (c .before .if3 .taken) in omega arith
+add-result c = let g = good _ (c .before .before .before .before .before .before .before .before .pre) in let h = gap-below _ _ _ _ (c .gap .ensures) (omega arith) (omega arith) in omega arith
 
 returns : tie.Need-returns
 unfolding soundMessage soundReply

@@ -1,3 +1,4 @@
+use Prim.Native.Nat.{_<_}
 use mathlib.Core.Path.{refl}
 use native.Mathlib.Omega.{arith}
 use borrow.Author.Needs.{needs}
@@ -37,8 +38,9 @@ add-next c = search needs
 
 returns : tie.Need-returns
 unfolding replyMessages soundReplyTable
-returns c = let e = reply-put (c .before .before .before .args .t .firsts) (c .before .before .before .args .t .lasts) (c .before .before .before .args .t .lives) (search needs) (search needs) (search needs) _ _ _ _ (c .before .before .if1 .taken) in
-    called-done _ _ _ _ _ (room-passed _ _ 18 (c .before .before .if1 .taken)) _ _ _ refl e (leaves _ _ _ _ e (put-sound _ _ _ _ _ (c .before .before .before .pre .1) (c .before .before .before .pre .2) (c .before .before .if1 .taken)))
+returns c = let k : c .before .before .before .args .t .count < 32 = omega arith in
+    let e = reply-put (c .before .before .before .args .t .firsts) (c .before .before .before .args .t .lasts) (c .before .before .before .args .t .lives) (search needs) (search needs) (search needs) _ _ _ _ k in
+    called-done _ _ _ _ _ (room-passed _ _ 18 k) _ _ _ refl e (leaves _ _ _ _ e (put-sound _ _ _ _ _ (c .before .before .before .pre .1) (c .before .before .before .pre .2) k))
 
 returns-2 : tie.Need-returns-2
 unfolding replyMessages
