@@ -1,16 +1,16 @@
 -- Writing and reading undo each other, for all input.
 -- Rows are the 16 cells of an array, and `Bytes` says of a list what a `&[u8]` holds: every byte is below 256.
-use Prim.Native.Nat.{ℕ, _<_}
+use Prim.Native.Nat.{ℕ}
 use mathlib.Core.Path.{_≡_, refl, sym, _∙_, ap}
 use mathlib.Core.Bool.{true, false, _&&_, _||_}
-use mathlib.Core.List.{List, [], _∷_, _++_}
+use mathlib.Core.List.{List, [], _∷_}
 use native.Mathlib.Omega.{arith}
 use lib.Dec.{eqb, leb}
 use lib.ListN.{length, take, drop}
 use lib.Seq.{take-at}
-use borrow.Author.Tests.{leb-true, eqb-true, eqb-false}
+use borrow.Author.Tests.{eqb-true}
 use Rattle.limits.specs.Questions.{pick, ask, firstNo}
-use Rattle.limits.proofs.Laws.Choice.{and-left, and-right, test, pick-yes, pick-no}
+use Rattle.limits.proofs.Laws.Choice.{and-right, test, pick-yes, pick-no}
 use Rattle.limits.proofs.Laws.Lists.{length-tab}
 use Rattle.frames.specs.declared.DataFrame.{DataFrame}
 use Rattle.frames.specs.declared.ReplyFrame.{ReplyFrame}

@@ -1,5 +1,5 @@
 -- The layout of frames. Data, 36 bytes: 1, life, w, number, then 16 cells low byte first. Reply, 5 bytes: 2, life, w, first, last.
-use Prim.Native.Nat.{ℕ, _+_, _*_, _%_, _/_, _<_}
+use Prim.Native.Nat.{ℕ, _+_, _*_, _%_, _/_}
 use mathlib.Core.Bool.{Bool}
 use mathlib.Core.List.{List, [], _∷_, _++_}
 use lib.Dec.{eqb}

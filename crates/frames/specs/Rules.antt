@@ -1,6 +1,6 @@
 -- The questions put to frames, 22 to 28 and 12, and what the calls promise.
 use Prim.Native.Nat.{ℕ, _*_}
-use mathlib.Core.Bool.{Bool, _&&_, _||_}
+use mathlib.Core.Bool.{_&&_, _||_}
 use mathlib.Core.List.{List, [], _∷_, _++_}
 use lib.Dec.{eqb, leb, ltb}
 use lib.ListN.{length}
@@ -13,7 +13,7 @@ use Rattle.frames.specs.declared.DataFrame.{DataFrame}
 use Rattle.frames.specs.declared.ReplyFrame.{ReplyFrame}
 use Rattle.frames.specs.declared.FrameRead.{FrameRead}
 use Rattle.frames.specs.declared.Written.{Written}
-use Rattle.frames.specs.Layout.{isData, isReply, dataOf, replyOf, Reading, reading, nothingRead}
+use Rattle.frames.specs.Layout.{isData, isReply, dataOf, replyOf, Reading, nothingRead}
 
 -- What is asked of the values of a frame, read or written. Of every frame: w 1 to 32, its numbers below 2w, its life 1 to 250.
 abbrev pub frameQuestions : ℕ → List ℕ → ℕ → List Question

@@ -250,12 +250,10 @@ pub fn read(bytes: &[u8]) -> FrameRead
         let kind = bytes[0];
         if kind == 1 {
             read_data(bytes)
+        } else if kind == 2 {
+            read_reply(bytes)
         } else {
-            if kind == 2 {
-                read_reply(bytes)
-            } else {
-                refused(Answer::UnknownFrame)
-            }
+            refused(Answer::UnknownFrame)
         }
     } else {
         refused(Answer::UnknownFrame)

@@ -1,7 +1,6 @@
 -- Worked cases of the mat's rules, by computation.
 use Prim.Native.Nat.{ℕ}
 use mathlib.Core.Path.{_≡_, refl}
-use mathlib.Core.Bool.{Bool, true, false}
 use mathlib.Core.List.{List, [], _∷_}
 use lib.ListN.{replicate}
 use Rattle.limits.specs.declared.Limits.{Limits}
@@ -10,8 +9,8 @@ use Rattle.limits.specs.Cells.{legalCell}
 use Rattle.limits.specs.Questions.{pick, firstNo}
 use Rattle.limits.specs.Ring.{distance, step}
 use Rattle.limits.specs.Tables.{Reply}
-use Rattle.mat.specs.Window.{Kept, MatState, outstanding}
-use Rattle.mat.specs.Rules.{sendQuestions, sending, resendQuestions, resending, acknowledgeQuestions, marked, passing, acknowledging, ticked}
+use Rattle.mat.specs.Window.{MatState, outstanding}
+use Rattle.mat.specs.Rules.{sendQuestions, sending, resendQuestions, acknowledgeQuestions, marked, passing, acknowledging, ticked}
 
 -- times 1, 1, 1 and wait 4
 abbrev limits : ℕ → Limits

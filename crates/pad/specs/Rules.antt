@@ -1,9 +1,9 @@
 -- The pad's events: data arrives, a reply for the run of rows at wanted, time passes.
-use Prim.Native.Nat.{ℕ, _+_, _-_, _*_}
+use Prim.Native.Nat.{ℕ, _-_, _*_}
 use mathlib.Core.Bool.{Bool, true, false}
 use mathlib.Core.List.{List, [], _∷_, _++_, map}
 use lib.Dec.{leb, ltb}
-use lib.ListN.{length, take, drop, set, replicate}
+use lib.ListN.{take, drop, set, replicate}
 use Rattle.limits.specs.declared.Limits.{Limits}
 use Rattle.limits.specs.Lists.{leading, joined}
 use Rattle.limits.specs.Questions.{pick, Question, ask}

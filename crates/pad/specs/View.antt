@@ -9,7 +9,7 @@ use lib.ListN.{getD, replicate}
 use Rattle.limits.specs.declared.Limits.{Limits}
 use Rattle.limits.specs.Lists.{tab, all}
 use Rattle.limits.specs.Cells.{rowAt, legalRow}
-use Rattle.limits.specs.Questions.{pick, Question, Answers, Called}
+use Rattle.limits.specs.Questions.{pick, Question, Called}
 use Rattle.limits.specs.Ring.{place}
 use Rattle.pad.specs.declared.Pad.{Pad}
 use Rattle.pad.specs.declared.Arrived.{Arrived}

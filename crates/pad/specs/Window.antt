@@ -1,6 +1,6 @@
 -- The pad (receiver) as its window: the w rows from wanted on, each held or not.
 use Prim.Native.Nat.{ℕ}
-use mathlib.Core.Bool.{Bool, true, false}
+use mathlib.Core.Bool.{Bool, false}
 use mathlib.Core.List.{List, []}
 use lib.Dec.{ltb}
 use Rattle.limits.specs.Tables.{Reply}

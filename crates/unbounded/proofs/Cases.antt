@@ -1,13 +1,13 @@
 -- Bench cases E to I on the unbounded ends, by computation: times 1, 1, 1, wait 4, and supply enough.
 use Prim.Native.Nat.{ℕ, _-_}
 use mathlib.Core.Path.{_≡_, refl}
-use mathlib.Core.List.{List, [], _∷_, map}
+use mathlib.Core.List.{List, [], _∷_}
 use lib.ListN.{replicate, length}
 use Rattle.limits.specs.declared.Limits.{Limits}
 use Rattle.limits.specs.Lists.{tab, all, leading, joined}
 use Rattle.limits.specs.Cells.{legalCell}
 use Rattle.limits.specs.Questions.{pick}
-use Rattle.limits.specs.Tables.{Message, Reply, remove, age}
+use Rattle.limits.specs.Tables.{remove, age}
 use Rattle.limits.specs.Events.{event}
 use Rattle.unbounded.specs.Ends.{Ends, fresh, at}
 use Rattle.unbounded.specs.Rules.{after}
