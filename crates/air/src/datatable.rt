@@ -100,7 +100,7 @@ pub fn remove(l: Limits, t: DataTable, p: usize) -> DataAnswer
     }
 }
 
-// Every life falls by d, and a message whose life was at most d is dropped: 4, 9.
+// Lives fall by d, and messages with no life left go: 4, 9.
 pub fn tick(l: Limits, t: DataTable, d: u16) -> DataAnswer
     ensures { λ r. ⌜ DataCall l t (ask 4 (soundLimits l && soundDataTable l t) ∷ timeQuestions d) (age d (dataMessages t)) r ⌝ }
 {

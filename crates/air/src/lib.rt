@@ -1,4 +1,4 @@
-// The messages in the air: a data table and a reply table, each with places for 32 messages, oldest first.
+// The messages in the air, in two tables: data and replies. Each takes 32 messages, in the order they were put.
 ghost use mathlib.Core.Path.{_≡_};
 ghost use lib.Dec.{ltb};
 

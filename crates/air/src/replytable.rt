@@ -101,7 +101,7 @@ pub fn remove(l: Limits, t: ReplyTable, p: usize) -> ReplyAnswer
     }
 }
 
-// Every life falls by d, and a message whose life was at most d is dropped: 4, 9.
+// Lives fall by d, and messages with no life left go: 4, 9.
 pub fn tick(l: Limits, t: ReplyTable, d: u16) -> ReplyAnswer
     ensures { λ r. ⌜ ReplyCall l t (ask 4 (soundLimits l && soundReplyTable l t) ∷ timeQuestions d) (age d (replyMessages t)) r ⌝ }
 {

@@ -13,7 +13,7 @@ use Rattle.frames.specs.Layout.{dataRead, replyRead}
 use Rattle.frames.specs.Rules.{readQuestions}
 use Rattle.frames.proofs.Theorems.{ReadAs}
 
--- J. Hex 02 01 02 03 00 is a reply of span 2; 02 01 02 03 01: 27.
+-- J: a reply whose span of 2 goes over the end of the ring, and one whose span is too long.
 pub case-J : ReadAs (2 ∷ 1 ∷ 2 ∷ 3 ∷ 0 ∷ []) (replyRead (record { life = 1; window = 2; first = 3; last = 0 }))
 unfolding pick all windowFits distance
 case-J = record { accepted = refl; means = refl }

@@ -1,4 +1,4 @@
--- The layout of frames. Data, 36 bytes: 1, life, w, number, then 16 cells low byte first. Reply, 5 bytes: 2, life, w, first, last.
+-- The layout of frames: what is written, byte by byte, and where each value is read.
 use Prim.Native.Nat.{ℕ, _+_, _*_, _%_, _/_}
 use mathlib.Core.Bool.{Bool}
 use mathlib.Core.List.{List, [], _∷_, _++_}

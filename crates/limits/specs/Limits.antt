@@ -46,6 +46,6 @@ accepted l =
 abbrev pub zeroLimits : Limits
 zeroLimits = record { window = 0; datalife = 0; replylife = 0; replywait = 0; resendwait = 0 }
 
--- question 4 of limits: they pass 1 to 3 and the wait is not 0
+-- question 4 of limits: no question of an opening refuses them, and the wait is set
 unfoldable pub soundLimits : Limits → Bool
 soundLimits l = eqb (firstNo (limitsQuestions l)) 0 && not (eqb (l .resendwait) 0)

@@ -1,4 +1,4 @@
--- The messages in the air. A table is a list of messages, oldest first.
+-- The messages in the air. A table is their list, in the order they were put.
 use Prim.Native.Nat.{ℕ, zero, suc, _-_, _*_, _+_}
 use mathlib.Core.Bool.{Bool, _&&_}
 use mathlib.Core.List.{List, [], _∷_, _++_}
@@ -35,7 +35,7 @@ remove p [] = []
 remove zero (m ∷ ms) = ms
 remove (suc p) (m ∷ ms) = m ∷ remove p ms
 
--- every life falls by d, and a message whose life was at most d is dropped
+-- d ticks pass: lives fall by d, and messages with no life left go
 unfoldable pub age : {B : Type 0} → ℕ → List (Message B) → List (Message B)
 age d [] = []
 age d (m ∷ ms) = pick (leb (m .life) d) (age d ms) (record { body = m .body; life = m .life - d } ∷ age d ms)

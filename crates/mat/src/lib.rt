@@ -22,7 +22,7 @@ use limits::Limits;
 use limits::answer::Answer;
 
 // `oldest` and `next` are numbers modulo 2w: the first unacknowledged row and the one to be sent. Row m stands at place m mod w,
-// with a mark (acknowledged) and a resend timer (retransmission timer).
+// beside its mark (acknowledged) and its resend timer (retransmission timer).
 pub struct Mat {
     pub oldest: usize,
     pub next: usize,

@@ -17,7 +17,7 @@ pub record Arrival : Type 0 where
   pub old : Bool
   pub reply : Reply
 
--- the row is held (again, if it was) and its reply timer set to the reply wait
+-- the row fills its slot, whatever was there, and its reply timer starts
 abbrev pub held : Limits → PadState → Data → PadState
 held l s x =
     record {
@@ -35,7 +35,7 @@ arrival l s x =
 abbrev pub noArrival : PadState → Arrival
 noArrival s = record { state = s; old = false; reply = noReply }
 
--- the longest run of rows from wanted on that are held with a reply timer above 0
+-- how many rows from wanted on are ready without a break
 abbrev pub run : PadState → ℕ
 run s = leading ready (s .slots)
 

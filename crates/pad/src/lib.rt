@@ -14,8 +14,8 @@ pub mod soundpad;
 use limits::Limits;
 use limits::answer::Answer;
 
-// `wanted` is the number, modulo 2w, of the first row that is not recorded. Row m stands at place m mod w, with a mark (held)
-// and a reply timer.
+// `wanted` is the number, modulo 2w, of the first row that is not recorded. Row m stands at place m mod w, beside its mark (held)
+// and its reply timer.
 pub struct Pad {
     pub wanted: usize,
     pub held: [bool; 32],

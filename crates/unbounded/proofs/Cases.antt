@@ -1,4 +1,4 @@
--- Bench cases E to I on the unbounded ends, by computation: times 1, 1, 1, wait 4, and supply enough.
+-- Bench cases E to I on the unbounded ends, by computation. The three times are 1 and the wait is 4.
 use Prim.Native.Nat.{ℕ, _-_}
 use mathlib.Core.Path.{_≡_, refl}
 use mathlib.Core.List.{List, [], _∷_}
@@ -31,7 +31,7 @@ listE =
     1 ∷ 0 ∷ 1 ∷ 0 ∷ 3 ∷ 0 ∷ 4 ∷ 0 ∷ 3 ∷ 0 ∷ 4 ∷ 0 ∷ 5 ∷ 0 ∷ 5 ∷ 0
     ∷ 1 ∷ 0 ∷ 6 ∷ 0 ∷ 1 ∷ 0 ∷ 3 ∷ 0 ∷ 8 ∷ 4 ∷ 2 ∷ 0 ∷ 3 ∷ 0 ∷ 4 ∷ 0 ∷ []
 
--- E: all 0; the last reply covers row 2 alone, though row 3 is held. Sent 4, acknowledged 2, recorded 3.
+-- E: no event is refused. Row 3 is held but not ready, so the last reply is for row 2 alone.
 pub case-E : (asked 2 listE ≡ replicate 16 0)
     × (left 2 listE .replyTable ≡ record { body = record { first = 2; last = 2 }; life = 1 } ∷ [])
     × (left 2 listE .next ≡ 4)

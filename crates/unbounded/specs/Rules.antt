@@ -30,7 +30,7 @@ questions l supply space s (loseData p) = ask 17 (ltb p (length (s .dataTable)))
 questions l supply space s (loseReply p) = ask 17 (ltb p (length (s .replyTable))) ∷ []
 questions l supply space s (tick d) = []
 
--- row m is put in the data table with the data life and its resend timer set to the resend wait; `next` is the next number after it
+-- row m goes out: a message with a full life, and its resend timer started; `next` is the number to be sent after it
 abbrev pub sent : Limits → Ends → ℕ → ℕ → List ℕ → Ends
 sent l s m next row =
     record {
@@ -83,7 +83,7 @@ withTables s datas replies =
       recorded = s .recorded;
     }
 
--- the row is held (again, if it was) and its reply timer set to the reply wait
+-- the row is held, whatever was there, and its reply timer starts
 abbrev pub holding : Limits → Ends → Data → Ends
 holding l s x =
     record {
@@ -123,11 +123,11 @@ recording s n =
       recorded = s .recorded ++ joined (tab n (λ i. s .heldRow (s .wanted + i)));
     }
 
--- the numbers from first to last are marked
+-- marks once the span of a reply is added
 abbrev pub marks : Ends → Reply → ℕ → Bool
 marks s x m = s .acknowledged m || (leb (x .first) m && leb m (x .last))
 
--- oldest passes every marked number; none from next on is ever marked
+-- oldest moves on to the first number without a mark, and no further than next
 abbrev pub acknowledging : Ends → Reply → Ends
 acknowledging s x =
     record {
