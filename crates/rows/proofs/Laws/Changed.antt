@@ -83,6 +83,3 @@ module _ {A : Type 0} (d : A) (new : ℕ → A) (xs : List A) where
 
   pub range-start : (a a' : ℕ) → a' ≡ a → xs ≡ changed d (from-to a a') new xs
   range-start a a' q = rw q (sym (range-none a))
-
-pub set-length : {A : Type 0} (ys xs : List A) (k : ℕ) (v : A) → length ys ≡ length xs → length (set ys k v) ≡ length xs
-set-length ys xs k v e = length-set ys k v ∙ e
