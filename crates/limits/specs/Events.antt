@@ -1,5 +1,6 @@
 -- Events. Each is two bytes, kind and argument; questions 8 and 9 are settled where the bytes are read.
 use Prim.Native.Nat.{ℕ}
+use mathlib.Core.List.{List, [], _∷_}
 use lib.Dec.{eqb, leb}
 use Rattle.limits.specs.Questions.{pick}
 
@@ -27,3 +28,9 @@ event kind argument =
     (pick (eqb kind 7) (loseReply argument)
     (pick (eqb kind 8) (pick (leb 1 argument) (tick argument) misfit)
     unknown)))))))
+
+-- the events of a list of bytes; a last byte without an argument is none
+abbrev pub events : List ℕ → List Event
+events [] = []
+events (kind ∷ []) = []
+events (kind ∷ argument ∷ rest) = event kind argument ∷ events rest

@@ -8,10 +8,10 @@ use Rattle.limits.specs.Lists.{tab, all, leading, joined}
 use Rattle.limits.specs.Cells.{legalCell}
 use Rattle.limits.specs.Questions.{pick}
 use Rattle.limits.specs.Tables.{remove, age}
-use Rattle.limits.specs.Events.{event}
+use Rattle.limits.specs.Events.{event, events}
 use Rattle.unbounded.specs.Ends.{Ends, fresh, at}
 use Rattle.unbounded.specs.Rules.{after}
-use Rattle.unbounded.specs.Lists.{events, answers, afterAll}
+use Rattle.unbounded.specs.Lists.{answers, afterAll}
 
 abbrev limits : ℕ → Limits
 limits w = record { window = w; datalife = 1; replylife = 1; replywait = 1; resendwait = 4 }

@@ -1,0 +1,4 @@
+pub mod State
+pub mod Rules
+pub mod Runs
+pub mod View

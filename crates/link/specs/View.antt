@@ -1,0 +1,78 @@
+-- How the link's structs show its state, question 4 of a link, and what opening, one event and a run promise.
+use Prim.Native.Nat.{ℕ, _/_, _%_}
+use mathlib.Core.Bool.{Bool, _&&_}
+use mathlib.Core.List.{List, [], _∷_, _++_}
+use lib.Dec.{eqb, leb}
+use lib.ListN.{length, drop}
+use Rattle.limits.specs.declared.Limits.{Limits}
+use Rattle.limits.specs.Questions.{Question, ask, Answers, Called}
+use Rattle.limits.specs.Limits.{limitsQuestions, accepted, zeroLimits, soundLimits}
+use Rattle.limits.specs.Events.{event, events}
+use Rattle.mat.specs.View.{matState, freshMat, soundMat}
+use Rattle.pad.specs.View.{padState, freshPad, soundPad}
+use Rattle.air.specs.Data.{dataMessages, emptyData, soundDataTable}
+use Rattle.air.specs.Replies.{replyMessages, emptyReplies, soundReplyTable}
+use Rattle.link.specs.declared.Link.{Link}
+use Rattle.link.specs.declared.Opening.{Opening}
+use Rattle.link.specs.declared.Progress.{Progress}
+use Rattle.link.specs.State.{LinkState, Moved, unmoved}
+use Rattle.link.specs.Rules.{questions, acted}
+use Rattle.link.specs.Runs.{afterAll, answers}
+
+unfoldable pub linkState : Link → LinkState
+linkState k =
+    record {
+      limits = k .limits;
+      mat = matState (k .limits .window) (k .mat);
+      pad = padState (k .limits .window) (k .pad);
+      datas = dataMessages (k .datas);
+      replies = replyMessages (k .replies);
+    }
+
+-- question 4
+unfoldable pub soundLink : Link → Bool
+soundLink k =
+    soundLimits (k .limits)
+    && (soundMat (k .limits) (k .mat)
+    && (soundPad (k .limits) (k .pad) && (soundDataTable (k .limits) (k .datas) && soundReplyTable (k .limits) (k .replies))))
+
+abbrev pub freshLink : Limits → Link
+freshLink l = record { limits = l; mat = freshMat; pad = freshPad; datas = emptyData; replies = emptyReplies }
+
+-- A refused opening gives a link of zeros.
+abbrev pub Opened : Limits → Opening → Type 0
+Opened asked r = Answers (limitsQuestions asked) (r .answer) (r .link) (freshLink (accepted asked)) (freshLink zeroLimits)
+
+abbrev pub shown : Progress → List ℕ → Moved
+shown r buffer = record { state = linkState (r .link); counts = r .counts; buffer = buffer }
+
+abbrev pub wholeRows : List ℕ → List Question
+wholeRows supply = ask 6 (eqb (length supply % 16) 0) ∷ []
+
+-- The call for one event. `before` and `after` are the record's contents at entry and at exit.
+abbrev pub Stepped : Link → ℕ → ℕ → List ℕ → List ℕ → List ℕ → Progress → Type 0
+Stepped k kind argument supply before after r =
+    Called (ask 4 (soundLink k) ∷ (wholeRows supply ++ questions supply (length before) (linkState k) (event kind argument))) (r .answer) (shown r after)
+    (acted supply before (linkState k) (event kind argument)) (unmoved (linkState k) before) soundLink k (r .link)
+
+-- what a run leaves in the link, the record and the answer buffer
+pub record Run : Type 0 where
+  pub moved : Moved
+  pub answers : List ℕ
+
+-- 5, 6 and 7, of what is lent to a run
+abbrev pub lentQuestions : List ℕ → List ℕ → List ℕ → List Question
+lentQuestions bytes supply answerBuffer =
+    ask 5 (eqb (length bytes % 2) 0) ∷ (wholeRows supply ++ (ask 7 (leb (length bytes / 2) (length answerBuffer)) ∷ []))
+
+abbrev pub running : Link → List ℕ → List ℕ → List ℕ → List ℕ → Run
+running k bytes supply before answersBefore =
+    record {
+      moved = afterAll supply (unmoved (linkState k) before) (events bytes);
+      answers = answers supply (unmoved (linkState k) before) (events bytes) ++ drop (length bytes / 2) answersBefore;
+    }
+
+abbrev pub Ran : Link → List ℕ → List ℕ → List ℕ → List ℕ → List ℕ → List ℕ → Progress → Type 0
+Ran k bytes supply before after answersBefore answersAfter r =
+    Called (ask 4 (soundLink k) ∷ lentQuestions bytes supply answersBefore) (r .answer) (record { moved = shown r after; answers = answersAfter })
+    (running k bytes supply before answersBefore) (record { moved = unmoved (linkState k) before; answers = answersBefore }) soundLink k (r .link)
