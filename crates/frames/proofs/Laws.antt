@@ -1,4 +1,3 @@
-pub mod Questions
 pub mod Values
 pub mod Cells
 pub mod Reading

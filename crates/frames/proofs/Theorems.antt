@@ -16,7 +16,7 @@ use Rattle.frames.specs.declared.DataFrame.{DataFrame}
 use Rattle.frames.specs.declared.ReplyFrame.{ReplyFrame}
 use Rattle.frames.specs.Layout.{byte, cellAt, cellBytes, dataBytes, replyBytes, dataInto, replyInto, dataOf, replyOf, isData, isReply, Reading, reading, dataRead, replyRead}
 use Rattle.frames.specs.Rules.{dataQuestions, replyQuestions, sizeOf, valueQuestions, readQuestions, writeDataQuestions, writeReplyQuestions}
-use Rattle.frames.proofs.Laws.Questions.{passed-first, front-passed}
+use Rattle.limits.proofs.Laws.Questions.{passed-first, front-passed}
 use Rattle.frames.proofs.Laws.Cells.{length-cells}
 use Rattle.frames.proofs.Laws.Values.{data-fits, data-legal, reply-fits}
 use Rattle.frames.proofs.Laws.Reading.{Kind, data-kind, reply-kind, right-length, accepted-kind}

@@ -5,3 +5,4 @@ pub mod Tables
 pub mod Good
 pub mod Promise
 pub mod Messages
+pub mod Questions

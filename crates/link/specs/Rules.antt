@@ -9,6 +9,7 @@ use Rattle.limits.specs.Questions.{pick, Question, ask, firstNo}
 use Rattle.limits.specs.Tables.{Message, Data, Reply, capacity, put, remove, age}
 use Rattle.limits.specs.Events.{Event, unknown, misfit, send, resend, arriveData, reply, arriveReply, loseData, loseReply, tick}
 use Rattle.mat.specs.Rules as mat
+use Rattle.pad.specs.Window.{PadState}
 use Rattle.pad.specs.Rules as pad
 use Rattle.air.specs.Rules.{roomQuestions, placeQuestions}
 use Rattle.air.specs.Data.{noData}
@@ -49,6 +50,13 @@ replyOut s x = record { body = x; life = s .limits .replylife }
 -- the mat sent a row, and its message is in the air
 abbrev pub sentOut : LinkState → mat.Sending → LinkState
 sentOut s x = record { limits = s .limits; mat = x .state; pad = s .pad; datas = put (dataOut s (x .message)) (s .datas); replies = s .replies }
+
+-- message p left the data table: an old row was replied to, a row of the window changed the pad
+abbrev pub oldTaken : LinkState → ℕ → Reply → LinkState
+oldTaken s p x = record { limits = s .limits; mat = s .mat; pad = s .pad; datas = remove p (s .datas); replies = put (replyOut s x) (s .replies) }
+
+abbrev pub newTaken : LinkState → ℕ → PadState → LinkState
+newTaken s p x = record { limits = s .limits; mat = s .mat; pad = x; datas = remove p (s .datas); replies = s .replies }
 
 -- what an event does that passed its questions
 abbrev pub acted : List ℕ → List ℕ → LinkState → Event → Moved

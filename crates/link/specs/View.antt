@@ -7,7 +7,7 @@ use lib.ListN.{length, drop}
 use Rattle.limits.specs.declared.Limits.{Limits}
 use Rattle.limits.specs.Questions.{Question, ask, Answers, Called}
 use Rattle.limits.specs.Limits.{limitsQuestions, accepted, zeroLimits, soundLimits}
-use Rattle.limits.specs.Events.{event, events}
+use Rattle.limits.specs.Events.{Event, event, events}
 use Rattle.mat.specs.View.{matState, freshMat, soundMat}
 use Rattle.pad.specs.View.{padState, freshPad, soundPad}
 use Rattle.air.specs.Data.{dataMessages, emptyData, soundDataTable}
@@ -49,7 +49,13 @@ shown r buffer = record { state = linkState (r .link); counts = r .counts; buffe
 abbrev pub wholeRows : List ℕ → List Question
 wholeRows supply = ask 6 (eqb (length supply % 16) 0) ∷ []
 
--- The call for one event. `before` and `after` are the record's contents at entry and at exit.
+-- What an event of a sound link promises. `before` and `after` are the record's contents at entry and at exit.
+abbrev pub Moves : Link → List ℕ → List ℕ → List ℕ → Event → Progress → Type 0
+Moves k supply before after e r =
+    Called (questions supply (length before) (linkState k) e) (r .answer) (shown r after) (acted supply before (linkState k) e) (unmoved (linkState k) before)
+    soundLink k (r .link)
+
+-- The call for one event: 4, 6, and the event's own questions.
 abbrev pub Stepped : Link → ℕ → ℕ → List ℕ → List ℕ → List ℕ → Progress → Type 0
 Stepped k kind argument supply before after r =
     Called (ask 4 (soundLink k) ∷ (wholeRows supply ++ questions supply (length before) (linkState k) (event kind argument))) (r .answer) (shown r after)

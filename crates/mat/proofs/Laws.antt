@@ -5,3 +5,4 @@ pub mod Resend
 pub mod Acknowledge
 pub mod Tick
 pub mod Calls
+pub mod Messages

@@ -8,3 +8,4 @@ pub mod Run
 pub mod Passing
 pub mod Refused
 pub mod Fresh
+pub mod Messages

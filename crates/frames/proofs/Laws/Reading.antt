@@ -16,7 +16,7 @@ use Rattle.frames.specs.declared.FrameRead.{FrameRead}
 use Rattle.limits.proofs.Laws.Choice.{pick-yes, pick-no, both, and-no-left, and-no-right}
 use Rattle.frames.specs.Layout.{byte, isData, isReply, dataOf, replyOf, Reading, reading, dataRead, replyRead, noData, noReply, nothingRead}
 use Rattle.frames.specs.Rules.{dataQuestions, replyQuestions, sizeOf, valueQuestions, readQuestions, ReadCall}
-use Rattle.frames.proofs.Laws.Questions.{passed-first}
+use Rattle.limits.proofs.Laws.Questions.{passed-first}
 
 -- A first byte that 22 takes: the length, the values' questions and the reading that go with it.
 pub record Kind (bytes : List ℕ) (n : ℕ) (qs : List Question) (r : Reading) : Type 0 where

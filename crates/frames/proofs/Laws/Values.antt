@@ -16,7 +16,7 @@ use Rattle.limits.proofs.Laws.Good.{between-low, between-high}
 use Rattle.frames.specs.declared.DataFrame.{DataFrame}
 use Rattle.frames.specs.declared.ReplyFrame.{ReplyFrame}
 use Rattle.frames.specs.Rules.{frameQuestions, dataQuestions, replyQuestions}
-use Rattle.frames.proofs.Laws.Questions.{numbered, passed, all-passed, more-stays, more-passes, more-fails}
+use Rattle.limits.proofs.Laws.Questions.{numbered, passed, all-passed, more-stays, more-passes, more-fails}
 
 -- two numbers below n
 module _ (n a b : ℕ) where

@@ -13,7 +13,7 @@ use Rattle.limits.specs.Answer.{numberOf}
 use Rattle.limits.specs.Questions.{Question, ask, firstNo, Answers}
 use Rattle.limits.proofs.Laws.Promise.{answers-done, answers-refused}
 use Rattle.frames.specs.Rules.{writing}
-use Rattle.frames.proofs.Laws.Questions.{numbered, more-stays, more-passes, more-fails}
+use Rattle.limits.proofs.Laws.Questions.{numbered, more-stays, more-passes, more-fails}
 
 -- four bytes in front of the cells
 pub data-put : (buffer cells : List ℕ) (a b c d : ℕ) → 4 ≤ length buffer

@@ -190,3 +190,6 @@ leading-agree p q n f g same =
     leading-is p n f (leading q (tab n g)) (omega arith)
     (λ i h. same i (omega arith) ∙ leading-at q n g i h)
     (λ h. same (leading q (tab n g)) h ∙ leading-end q n g h)
+
+pub all-at : {A : Type 0} (p : A → Bool) (xs : List A) (i : ℕ) (d : A) → i < length xs → all p xs ≡ true → p (getD xs i d) ≡ true
+all-at p xs i d h e = all-tab-at p (length xs) (λ j. getD xs j d) (ap (all p) (tab-self xs (length xs) d refl) ∙ e) i h

@@ -5,10 +5,10 @@ use mathlib.Core.Bool.{true, _&&_}
 use mathlib.Core.List.{List}
 use Rattle.limits.specs.Cells.{legalRow}
 use lib.Dec.{leb, ltb}
-use borrow.Author.Tests.{ltb-true, leb-true}
+use borrow.Author.Tests.{ltb-true, leb-true, lt-ltb, le-leb}
 use Rattle.limits.specs.declared.Limits.{Limits}
-use Rattle.limits.specs.Tables.{Reply, span, soundReply, soundData}
-use Rattle.limits.proofs.Laws.Choice.{and-left, and-right}
+use Rattle.limits.specs.Tables.{Data, Reply, span, soundReply, soundData}
+use Rattle.limits.proofs.Laws.Choice.{and-left, and-right, both}
 
 pub record ReplyFacts (l : Limits) (x : Reply) : Type 0 where
   pub first : x .first < 2 * l .window
@@ -34,3 +34,11 @@ message-low l number row e = ltb-true _ _ (and-left (ltb number (2 * l .window))
 pub message-legal : (l : Limits) (number : ℕ) (row : List ℕ) → soundData l (record { number = number; row = row }) ≡ true → legalRow row ≡ true
 unfolding soundData
 message-legal l number row e = and-right (ltb number (2 * l .window)) _ e
+
+pub data-sound : (l : Limits) (x : Data) → x .number < 2 * l .window → legalRow (x .row) ≡ true → soundData l x ≡ true
+unfolding soundData
+data-sound l x h e = both _ _ (lt-ltb _ _ h) e
+
+pub reply-sound : (l : Limits) (x : Reply) → x .first < 2 * l .window → x .last < 2 * l .window → span (l .window) x ≤ l .window → soundReply l x ≡ true
+unfolding soundReply
+reply-sound l x f e s = both _ _ (lt-ltb _ _ f) (both _ _ (lt-ltb _ _ e) (le-leb _ _ s))

@@ -1,6 +1,6 @@
 -- Laws on what a call promises: from the first no to the two records that contracts cite.
 use Prim.Native.Nat.{ℕ, _≤_, _<_}
-use mathlib.Core.Path.{_≡_, refl, sym, _∙_, ap}
+use mathlib.Core.Path.{_≡_, refl, sym, _∙_, ap, ap₂}
 use mathlib.Core.Bool.{Bool, true, false}
 use mathlib.Core.List.{List, [], _∷_}
 use types.Run.{OneOf, miss}
@@ -111,3 +111,25 @@ time-passed d h = sym (pick-yes _ _ _ _ (le-leb 1 d h) refl)
 
 pub time-refused : (d : ℕ) → d < 1 → 9 ≡ firstNo (timeQuestions d)
 time-refused d h = sym (pick-no _ _ _ _ (lt-leb 1 d h) refl)
+
+-- what a call that answered 0 shows, and that it refused nothing
+module _ {X : Type 0} (qs : List Question) (answer : Answer) (shown done refused : X) (a : Answers qs answer shown done refused) (e : numberOf answer ≡ 0) where
+  pub none-no : firstNo qs ≡ 0
+  none-no = sym (a .number) ∙ e
+
+  pub done-of : shown ≡ done
+  done-of = a .result ∙ pick-yes _ _ _ _ (eq-eqb _ _ none-no) refl
+
+-- a promise by other questions with the same first no, and another name for what is done
+pub called-as : {S X : Type 0} (qs qs' : List Question) (answer : Answer) (shown done done' refused : X) (sound : S → Bool) (before after : S)
+    → firstNo qs ≡ firstNo qs' → done ≡ done' → Called qs answer shown done refused sound before after
+    → Called qs' answer shown done' refused sound before after
+called-as qs qs' answer shown done done' refused sound before after e d c =
+    record {
+      answers =
+          record {
+            number = c .answers .number ∙ e;
+            result = c .answers .result ∙ ap₂ (λ n x. pick (eqb n 0) x refused) e d;
+          };
+      keeps = record { kept = λ ne. c .keeps .kept (λ z. ne (sym e ∙ z)); stays = c .keeps .stays };
+    }

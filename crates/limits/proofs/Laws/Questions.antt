@@ -80,3 +80,23 @@ module _ (qs : List Question) (found : ℕ) (first : found ≡ firstNo qs) where
 
     pub more-fails : b ≡ false → code ≡ firstNo (qs ++ (ask code b ∷ []))
     more-fails p = sym (first-later qs (ask code b ∷ []) (all-passed qs n (sym first ∙ e)) ∙ pick-no b 0 code code p refl)
+
+-- questions behind others that were passed
+pub behind-passed : (qs rest : List Question) → numbered qs ≡ true → firstNo qs ≡ 0 → firstNo (qs ++ rest) ≡ firstNo rest
+behind-passed qs rest n e = first-later qs rest (all-passed qs n e)
+
+-- every question was passed, one fact for each
+abbrev pub Each : List Question → Type 0
+Each [] = Unit {0}
+Each (q ∷ qs) = (q .passes ≡ true) × Each qs
+
+pub each : (qs : List Question) → numbered qs ≡ true → firstNo qs ≡ 0 → Each qs
+unfolding all
+each [] n e = tt
+each (q ∷ qs) n e =
+    go (each qs (and-right (not (eqb (q .code) 0)) (numbered qs) n))
+  where
+    go : (firstNo qs ≡ 0 → Each qs) → (q .passes ≡ true) × Each qs
+    go later =
+        let p = passed-first (q .code) (q .passes) qs (not-true (eqb (q .code) 0) (and-left (not (eqb (q .code) 0)) (numbered qs) n)) e in
+        (p .0, later (p .1))

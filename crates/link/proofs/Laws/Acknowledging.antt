@@ -1,0 +1,89 @@
+-- A reply of the table arrives at the mat.
+use Prim.Native.Nat.{ℕ, _<_}
+use mathlib.Core.Path.{_≡_, refl, sym, _∙_, ap}
+use mathlib.Core.Bool.{true, false}
+use mathlib.Core.List.{List, [], _++_}
+use lib.Dec.{eqb}
+use lib.ListN.{length, getD}
+use Rattle.limits.specs.Answer.{numberOf}
+use Rattle.limits.specs.Lists.{all}
+use Rattle.limits.specs.Questions.{Question, firstNo, Answers, Called}
+use Rattle.limits.specs.Tables.{Message, Reply, remove, soundReply}
+use Rattle.limits.specs.Events.{arriveReply}
+use Rattle.limits.proofs.Laws.Promise.{called-done, done-of, none-no}
+use Rattle.limits.proofs.Laws.Questions.{behind-passed}
+use Rattle.mat.specs.declared.Acknowledged.{Acknowledged}
+use Rattle.mat.specs.Rules.{Acknowledging, acknowledgeQuestions, acknowledging}
+use Rattle.mat.specs.View.{matState, AcknowledgeCall}
+use Rattle.pad.specs.View.{padState}
+use Rattle.air.specs.declared.replytable.ReplyAnswer.{ReplyAnswer}
+use Rattle.air.specs.declared.replytable.ReplyRead.{ReplyRead}
+use Rattle.air.specs.Rules.{placeQuestions}
+use Rattle.air.specs.Data.{dataMessages}
+use Rattle.air.specs.Replies.{replyMessages, noReply, ReplyCall, ReplyReading}
+use Rattle.link.specs.declared.Link.{Link}
+use Rattle.link.specs.declared.Progress.{Progress}
+use Rattle.link.specs.State.{LinkState, Moved}
+use Rattle.link.specs.View.{linkState, soundLink, Moves}
+use Rattle.link.proofs.Laws.Parts.{Parts, whole}
+use Rattle.link.proofs.Laws.Messages.{found, reply-at-sound}
+use Rattle.link.proofs.Laws.Tables.{place-found}
+
+module _ (k : Link) (p : Parts k) (n : ℕ) (read : ReplyRead) (c : ReplyReading (k .replies) n (placeQuestions n (replyMessages (k .replies))) read)
+    (e : numberOf (read .answer) ≡ 0) where
+  abbrev body : Reply
+  body = record { first = read .message .first; last = read .message .last }
+
+  passes : firstNo (placeQuestions n (replyMessages (k .replies))) ≡ 0
+  passes = none-no _ _ _ _ _ c e
+
+  pub place-there : n < length (replyMessages (k .replies))
+  place-there = found n (replyMessages (k .replies)) passes
+
+  body-is : body ≡ getD (replyMessages (k .replies)) n noReply .body
+  body-is = ap (λ (m : Message Reply). m .body) (done-of _ _ _ _ _ c e)
+
+  pub read-sound : soundReply (k .limits) body ≡ true
+  read-sound = ap (soundReply (k .limits)) body-is ∙ reply-at-sound (k .limits) (k .replies) n place-there (p .replies)
+
+  module _ (a : Acknowledged)
+      (ca : AcknowledgeCall (k .limits) (k .mat) (acknowledgeQuestions (k .limits) (matState (k .limits .window) (k .mat)) body)
+      (acknowledging (k .limits) (matState (k .limits .window) (k .mat)) body) a) where
+    pub both-asked : numberOf (a .answer)
+        ≡ firstNo (placeQuestions n (replyMessages (k .replies))
+        ++ acknowledgeQuestions (k .limits) (matState (k .limits .window) (k .mat)) (getD (replyMessages (k .replies)) n noReply .body))
+    unfolding all
+    both-asked =
+        ca .answers .number
+        ∙ ap (λ x. firstNo (acknowledgeQuestions (k .limits) (matState (k .limits .window) (k .mat)) x)) body-is
+        ∙ sym (behind-passed (placeQuestions n (replyMessages (k .replies)))
+        (acknowledgeQuestions (k .limits) (matState (k .limits .window) (k .mat)) (getD (replyMessages (k .replies)) n noReply .body)) refl passes)
+
+    pub acknowledged : (left : ReplyAnswer) (supply b : List ℕ) → numberOf (a .answer) ≡ 0
+        → ReplyCall (k .limits) (k .replies) (placeQuestions n (replyMessages (k .replies))) (remove n (replyMessages (k .replies))) left
+        → Moves k supply b b (arriveReply n)
+        (record {
+          answer = a .answer;
+          link = record { limits = k .limits; mat = a .mat; pad = k .pad; datas = k .datas; replies = left .table };
+          counts = record { sent = 0; acknowledged = a .passed; recorded = 0 };
+        })
+    unfolding linkState
+    acknowledged left supply b z cl =
+        called-done _ _ _ _ _ both-asked _ _ _ z
+        (λ i. record {
+          state =
+              record {
+                limits = k .limits;
+                mat = marks i .state;
+                pad = padState (k .limits .window) (k .pad);
+                datas = dataMessages (k .datas);
+                replies = done-of _ _ _ _ _ (cl .answers) (cl .answers .number ∙ passes) i;
+              };
+          counts = record { sent = 0; acknowledged = marks i .passed; recorded = 0 };
+          buffer = b;
+        })
+        (whole _ (record { limits = p .limits; mat = ca .keeps .stays (p .mat); pad = p .pad; datas = p .datas; replies = cl .keeps .stays (p .replies) }))
+      where
+        marks : record { state = matState (k .limits .window) (a .mat); passed = a .passed }
+            ≡ acknowledging (k .limits) (matState (k .limits .window) (k .mat)) (getD (replyMessages (k .replies)) n noReply .body)
+        marks = done-of _ _ _ _ _ (ca .answers) z ∙ ap (acknowledging (k .limits) (matState (k .limits .window) (k .mat))) body-is

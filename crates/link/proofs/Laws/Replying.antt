@@ -1,0 +1,117 @@
+-- The run at wanted is recorded, and its reply put in the air.
+use Prim.Native.Nat.{ℕ, _*_, _<_, _≤_}
+use mathlib.Core.Path.{_≡_, refl, sym, _∙_, ap}
+use mathlib.Core.Bool.{Bool, true, false}
+use mathlib.Core.List.{List, [], _∷_, _++_}
+use native.Mathlib.Omega.{arith}
+use lib.Dec.{eqb, leb, ltb}
+use lib.ListN.{length}
+use borrow.Author.Tests.{ltb-true, lt-ltb, le-leb, lt-leb}
+use Rattle.limits.specs.declared.answer.Answer.{Answer}
+use Rattle.limits.specs.declared.answer.Answer.the-variants.{Done}
+use Rattle.limits.specs.Answer.{numberOf}
+use Rattle.limits.specs.Lists.{all}
+use Rattle.limits.specs.Questions.{Question, ask, firstNo, Answers, Called}
+use Rattle.limits.specs.Tables.{capacity, put, soundReply}
+use Rattle.limits.specs.Events.{reply}
+use Rattle.limits.proofs.Laws.Choice.{pick-yes, pick-no}
+use Rattle.limits.proofs.Laws.Good.{good}
+use Rattle.limits.proofs.Laws.Promise.{called-done, done-of, none-no}
+use Rattle.limits.proofs.Laws.Questions.{each, front-passed, behind-passed, more-stays}
+use Rattle.mat.specs.View.{matState}
+use Rattle.pad.specs.declared.Replied.{Replied}
+use Rattle.pad.specs.declared.RunLength.{RunLength}
+use Rattle.pad.specs.Window.{PadState}
+use Rattle.pad.specs.Rules.{Replying, run, runQuestions, replyQuestions, replying}
+use Rattle.pad.specs.View.{padState, shownReplying, ReplyCall}
+use Rattle.pad.proofs.Laws.Messages.{run-most, replying-sound}
+use Rattle.air.specs.declared.replytable.ReplyAnswer.{ReplyAnswer}
+use Rattle.air.specs.Rules.{roomQuestions}
+use Rattle.air.specs.Data.{dataMessages}
+use Rattle.air.specs.Replies as air
+use Rattle.link.specs.declared.Link.{Link}
+use Rattle.link.specs.declared.Progress.{Progress}
+use Rattle.link.specs.State.{LinkState, Moved}
+use Rattle.link.specs.View.{linkState, Moves}
+use Rattle.link.proofs.Laws.Parts.{Parts, whole}
+
+-- 20, 21 and 18 of a pad, a record's space and a table
+module _ {A : Type 0} (s : PadState) (space : ℕ) (ms : List A) where
+  abbrev pub replyAsks : List Question
+  replyAsks = replyQuestions s space ++ roomQuestions 18 ms
+
+  pub nothing-ready : (found : ℕ) → found ≡ firstNo (runQuestions s) → eqb found 0 ≡ false → found ≡ firstNo replyAsks
+  nothing-ready found e z = more-stays (runQuestions s) found e (ask 21 (leb (16 * run s) space) ∷ roomQuestions 18 ms) z
+
+  module _ (low : 0 < run s) (n : ℕ) (is : n ≡ run s) where
+    pub record-full : space < 16 * n → 21 ≡ firstNo replyAsks
+    record-full h = sym (pick-yes _ _ _ _ (lt-ltb 0 (run s) low) (pick-no _ _ _ _ (lt-leb (16 * run s) space (omega arith)) refl))
+
+    module _ (h : 16 * n ≤ space) where
+      pub table-full : ltb (length ms) capacity ≡ false → 18 ≡ firstNo replyAsks
+      table-full e = sym (pick-yes _ _ _ _ (lt-ltb 0 (run s) low) (pick-yes _ _ _ _ (le-leb (16 * run s) space (omega arith)) (pick-no _ _ _ _ e refl)))
+
+      pub all-pass : ltb (length ms) capacity ≡ true → firstNo replyAsks ≡ 0
+      all-pass e = pick-yes _ _ _ _ (lt-ltb 0 (run s) low) (pick-yes _ _ _ _ (le-leb (16 * run s) space (omega arith)) (pick-yes _ _ _ _ e refl))
+
+-- what the run's length tells
+module _ (s : PadState) (n : RunLength) (c : Answers (runQuestions s) (n .answer) (n .count) (run s) 0) (e : numberOf (n .answer) ≡ 0) where
+  pub count-is : n .count ≡ run s
+  count-is = done-of _ _ _ _ _ c e
+
+  pub some-ready : 0 < run s
+  unfolding all
+  some-ready = ltb-true 0 (run s) (each (runQuestions s) refl (none-no _ _ _ _ _ c e) .0)
+
+-- a run fits the window
+pub count-fits : (k : Link) → Parts k → (n : RunLength) → n .count ≡ run (padState (k .limits .window) (k .pad)) → n .count ≤ 32
+count-fits k p n e = let g = good (k .limits) (p .limits) in let m = run-most (k .limits) (p .limits) (k .pad) (p .pad) in omega arith
+
+module _ (k : Link) (p : Parts k) (before after : List ℕ)
+    (z : firstNo (replyAsks (padState (k .limits .window) (k .pad)) (length before) (air.replyMessages (k .replies))) ≡ 0) (rec : Replied)
+    (c : ReplyCall (k .limits) (k .pad) before after (replyQuestions (padState (k .limits .window) (k .pad)) (length before))
+    (replying (k .limits) (padState (k .limits .window) (k .pad)) before) rec) where
+  passes : firstNo (replyQuestions (padState (k .limits .window) (k .pad)) (length before)) ≡ 0
+  passes = front-passed (replyQuestions (padState (k .limits .window) (k .pad)) (length before)) (roomQuestions 18 (air.replyMessages (k .replies))) z
+
+  room : firstNo (roomQuestions 18 (air.replyMessages (k .replies))) ≡ 0
+  unfolding all
+  room = sym (behind-passed (replyQuestions (padState (k .limits .window) (k .pad)) (length before)) (roomQuestions 18 (air.replyMessages (k .replies))) refl passes) ∙ z
+
+  recorded-is : shownReplying (k .limits) rec after ≡ replying (k .limits) (padState (k .limits .window) (k .pad)) before
+  recorded-is = done-of _ _ _ _ _ (c .answers) (c .answers .number ∙ passes)
+
+  pub run-sound : soundReply (k .limits) (record { first = rec .first; last = rec .last }) ≡ true
+  unfolding all
+  run-sound =
+      ap (λ (x : Replying). soundReply (k .limits) (x .reply)) recorded-is
+      ∙ replying-sound (k .limits) (p .limits) (k .pad) (p .pad) before
+      (ltb-true 0 (run (padState (k .limits .window) (k .pad))) (each (replyQuestions (padState (k .limits .window) (k .pad)) (length before)) refl passes .0))
+
+  pub replies : (into : ReplyAnswer)
+      → air.ReplyCall (k .limits) (k .replies) (roomQuestions 18 (air.replyMessages (k .replies)))
+      (put (record { body = record { first = rec .first; last = rec .last }; life = k .limits .replylife }) (air.replyMessages (k .replies))) into
+      → Moves k [] before after reply
+      (record {
+        answer = Done;
+        link = record { limits = k .limits; mat = k .mat; pad = rec .pad; datas = k .datas; replies = into .table };
+        counts = record { sent = 0; acknowledged = 0; recorded = rec .count };
+      })
+  unfolding linkState
+  replies into d =
+      called-done (replyAsks (padState (k .limits .window) (k .pad)) (length before) (air.replyMessages (k .replies))) _ _ _ _ (sym z) _ _ _ refl
+      (λ i. record {
+        state =
+            record {
+              limits = k .limits;
+              mat = matState (k .limits .window) (k .mat);
+              pad = recorded-is i .state;
+              datas = dataMessages (k .datas);
+              replies =
+                  (done-of _ _ _ _ _ (d .answers) (d .answers .number ∙ room)
+                  ∙ ap (λ (x : Replying). put (record { body = x .reply; life = k .limits .replylife }) (air.replyMessages (k .replies))) recorded-is) i;
+            };
+        counts = record { sent = 0; acknowledged = 0; recorded = recorded-is i .count };
+        buffer = recorded-is i .buffer;
+      })
+      (whole _ (record { limits = p .limits; mat = p .mat; pad = c .keeps .stays (p .pad); datas = p .datas; replies = d .keeps .stays (p .replies) }))

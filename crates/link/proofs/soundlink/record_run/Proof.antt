@@ -1,0 +1,34 @@
+use borrow.Author.Needs.{needs}
+use Rattle.link.proofs.soundlink.record_run.Statement.{statement}
+use Rattle.link.proofs.soundlink.record_run.Tie as tie
+use Rattle.link.proofs.soundlink.record_run.Reads as reads
+use Rattle.link.proofs.soundlink.record_run.Lts as lts
+use Rattle.air.proofs.soundreplies.put.Reads as put-reads
+use Rattle.pad.proofs.soundpad.reply.Reads as reply-reads
+use Rattle.link.specs.View.{linkState}
+use Rattle.link.proofs.Laws.Parts.{parts}
+use Rattle.link.proofs.Laws.Tables.{full-reply}
+use Rattle.link.proofs.Laws.Replying.{run-sound, replies}
+
+-- src/soundlink.rt:238:9
+reply-requires : tie.Need-reply-requires
+reply-requires c κs = let p = parts _ (c .before .before .before .before .pre .0) in (p .limits, p .pad)
+
+-- src/soundlink.rt:245:9
+put-requires : tie.Need-put-requires
+unfolding linkState
+put-requires c κs = let t = c .before .before .before in let s = t .before .before .before .before .before in let p = parts _ (s .pre .0) in
+    (p .limits, p .replies, full-reply _ (record { first = t .reply .result .first; last = t .reply .result .last }) (p .limits) (run-sound (s .args .k) p _ _ (s .pre .1) (t .reply .result) (t .reply .ensures)))
+
+-- src/soundlink.rt:232:1
+same-length : tie.Need-same-length
+same-length c = search needs
+
+-- src/soundlink.rt:232:1
+returns : tie.Need-returns
+unfolding linkState
+returns c = let q = c .before .before .before .before in let t = q .before .before .before .before in let s = t .before .before .before .before .before in
+    replies (s .args .k) (parts _ (s .pre .0)) _ _ (s .pre .1) (t .reply .result) (t .reply .ensures) (q .put .result) (q .put .ensures)
+
+pub record-run-spec : {M : Type 1} → statement M
+record-run-spec = tie.close (tie.spec reply-requires put-requires same-length returns)
