@@ -54,7 +54,7 @@ few-lines (kind ∷ argument ∷ events) answers h = absurd (omega arith)
 lines-end : (events answers : List ℕ) (i : ℕ) → length events ≤ 2 * i + 1 → eventLines (drop (2 * i) events) (drop i answers) ≡ []
 lines-end events answers i h = few-lines (drop (2 * i) events) (drop i answers) (let l = length-drop (2 * i) events in omega arith)
 
-line-most : (kind argument answer : ℕ) → length (eventLine kind argument answer) ≤ 12
+pub line-most : (kind argument answer : ℕ) → length (eventLine kind argument answer) ≤ 12
 unfolding eventLine
 line-most kind argument answer =
     let a = decimal-most kind in

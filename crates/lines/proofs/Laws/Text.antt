@@ -116,7 +116,7 @@ pub field-room : (n at p : ℕ) (text xs ys : List ℕ) → Wrote at (decimal n 
 field-room n at p text xs ys w = let l = length-append (decimal n) text in let m = decimal-most n in omega arith
 
 -- each line by its parts
-same-wrote : (at : ℕ) (a b xs ys : List ℕ) (p : ℕ) → a ≡ b → Wrote at a xs ys p → Wrote at b xs ys p
+pub same-wrote : (at : ℕ) (a b xs ys : List ℕ) (p : ℕ) → a ≡ b → Wrote at a xs ys p → Wrote at b xs ys p
 same-wrote at a b xs ys p e w = rw e at w
 
 pub event-wrote : (kind argument answer at p q r : ℕ) (xs ys zs us : List ℕ) → Wrote at (decimal kind ++ space) xs ys p

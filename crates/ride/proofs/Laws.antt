@@ -1,0 +1,2 @@
+pub mod Rode
+pub mod Bounds
