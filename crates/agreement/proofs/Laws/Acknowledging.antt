@@ -7,7 +7,7 @@ use lib.Dec.{ltb}
 use lib.ListN.{length, drop, length-map}
 use borrow.Author.Tests.{le-leb, ltb-true}
 use Rattle.limits.specs.declared.Limits.{Limits}
-use Rattle.limits.specs.Lists.{tab, leading}
+use Rattle.limits.specs.Lists.{tab, leading, all}
 use Rattle.limits.specs.Questions.{firstNo}
 use Rattle.limits.specs.Ring.{step}
 use Rattle.limits.specs.Tables.{span}
@@ -21,7 +21,8 @@ use Rattle.unbounded.specs.Rules.{questions, marks, replyAt}
 use Rattle.unbounded.proofs.Laws.Reads.{Reads}
 use Rattle.agreement.specs.Reading.{reading, matOf, replyModulo}
 use Rattle.agreement.proofs.Laws.Modulo.{step-modulo, distance-modulo}
-use Rattle.agreement.proofs.Laws.Agrees.{agrees, passed}
+use Rattle.limits.proofs.Laws.Questions.{each}
+use Rattle.agreement.proofs.Laws.Agrees.{agrees}
 use Rattle.agreement.proofs.Laws.Tables.{table-at, table-remove}
 use Rattle.agreement.proofs.Laws.Mat.{window, window-length, rows-marked, rows-passed, front-agrees}
 use Rattle.agreement.proofs.Laws.Events.{Asks, Acts, link-path}
@@ -72,9 +73,9 @@ module _ (l : Limits) (some : 1 ≤ l .window) (supply : List ℕ) (space : ℕ)
     passed-is = ap (leading (λ (k : Kept). k .acknowledged)) marked-is ∙ front-agrees (s .oldest) (s .next) (marks s (replyAt s p)) (s .keptRow)
 
   pub acts-arriveReply : firstNo (questions l supply space s (arriveReply p)) ≡ 0 → Acts l supply buffer s (arriveReply p)
-  unfolding reading passing
+  unfolding reading passing all
   acts-arriveReply e =
-      let q = passed (questions l supply space s (arriveReply p)) (omega arith) e in
+      let q = each (questions l supply space s (arriveReply p)) refl e in
       let h : p < length (s .replyTable) = ltb-true p (length (s .replyTable)) (q .0) in
       record {
         state =

@@ -1,10 +1,9 @@
--- Two lists of questions that give the same first no, and the tests of a list that gives none.
-use Prim.Native.Nat.{_<_}
+-- Two lists of questions that give the same first no.
 use mathlib.Core.Path.{_≡_, refl, sym, _∙_}
 use mathlib.Core.Bool.{true}
 use mathlib.Core.List.{List, [], _∷_}
-use native.Mathlib.Omega.{arith}
 use Rattle.limits.specs.Questions.{Question, firstNo}
+use Rattle.limits.proofs.Laws.Questions.{Each}
 use Rattle.limits.proofs.Laws.Choice.{test, pick-yes, pick-no}
 
 -- Question for question the same, where the ones before were passed. What the first list asks beyond the second is passed,
@@ -24,23 +23,7 @@ agrees (p ∷ ps) (q ∷ qs) a =
     (λ e. pick-yes _ _ _ _ (a .1 ∙ e) (agrees ps qs (a .2 e)) ∙ sym (pick-yes _ _ _ _ e refl))
     (λ e. pick-no _ _ _ _ (a .1 ∙ e) (a .0) ∙ sym (pick-no _ _ _ _ e refl))
 
--- every test of a list
-abbrev pub Passed : List Question → Type 0
-Passed [] = Unit {0}
-Passed (q ∷ qs) = (q .passes ≡ true) × Passed qs
-
--- no question has the number 0
-abbrev pub Numbered : List Question → Type 0
-Numbered [] = Unit {0}
-Numbered (q ∷ qs) = (0 < q .code) × Numbered qs
-
-pub passed : (qs : List Question) → Numbered qs → firstNo qs ≡ 0 → Passed qs
-passed [] n e = tt
-passed (q ∷ qs) n e =
-    test (q .passes)
-    (λ y. (y, passed qs (n .1) (sym (pick-yes (q .passes) (firstNo qs) (q .code) _ y refl) ∙ e)))
-    (λ y. let z : q .code ≡ 0 = sym (pick-no (q .passes) (firstNo qs) (q .code) _ y refl) ∙ e in let k = n .0 in absurd (omega arith))
-
-pub none-refused : (qs : List Question) → Passed qs → firstNo qs ≡ 0
+-- a list whose every test is passed gives none
+pub none-refused : (qs : List Question) → Each qs → firstNo qs ≡ 0
 none-refused [] a = refl
 none-refused (q ∷ qs) a = pick-yes _ _ _ _ (a .0) (none-refused qs (a .1))

@@ -6,15 +6,6 @@ use borrow.Author.Tests.{eq-eqb, ne-eqb, eqb-true}
 use Rattle.limits.proofs.Laws.Choice.{test, pick-yes, pick-no}
 use Rattle.unbounded.specs.Ends.{at}
 
-module _ {A : Type 0} (m : ℕ) (v : A) (f : ℕ → A) (k : ℕ) where
-  pub at-same : k ≡ m → at m v f k ≡ v
-  unfolding at
-  at-same e = pick-yes (eqb k m) v (f k) v (eq-eqb k m e) refl
-
-  pub at-other : (k ≡ m → ⊥) → at m v f k ≡ f k
-  unfolding at
-  at-other e = pick-no (eqb k m) v (f k) (f k) (ne-eqb k m e) refl
-
 -- changed to the value it had
 pub at-own : {A : Type 0} (m : ℕ) (f : ℕ → A) (k : ℕ) → at m (f m) f k ≡ f k
 unfolding at

@@ -6,7 +6,7 @@ use mathlib.Core.List.{List, [], _∷_, _++_, map}
 use native.Mathlib.Omega.{arith}
 use lib.Dec.{eqb, leb, ltb}
 use lib.ListN.{length, getD, drop, set}
-use borrow.Author.Tests.{le-leb, lt-leb, eqb-true, eqb-false}
+use borrow.Author.Tests.{le-leb, lt-leb, eqb-true, eqb-false, eq-eqb, ne-eqb}
 use Rattle.limits.specs.Lists.{tab, leading}
 use Rattle.limits.specs.Questions.{pick}
 use Rattle.limits.proofs.Laws.Choice.{split, test, pick-yes, pick-no}
@@ -17,7 +17,8 @@ use Rattle.unbounded.specs.Ends.{Ends, at}
 use Rattle.unbounded.specs.Rules.{later}
 use Rattle.agreement.specs.Reading.{matOf}
 use Rattle.agreement.proofs.Laws.Tests.{leb-leb, ltb-leb}
-use Rattle.agreement.proofs.Laws.At.{at-same, at-other, at-own}
+use Rattle.agreement.proofs.Laws.At.{at-own}
+use Rattle.unbounded.proofs.Laws.Base.{at-same, at-other}
 
 abbrev pub kept : (ℕ → Bool) → (ℕ → List ℕ) → ℕ → Kept
 kept marks rows m = record { acknowledged = marks m; cells = rows m }
@@ -45,8 +46,8 @@ module _ (w n : ℕ) where
   timers-sent wait f some =
       ap₂ (λ xs x. xs ++ (x ∷ []))
       (drop-tab 1 w (before w n f)
-      ∙ tab-ext (w - 1) _ _ (λ i h. before-same (n + 1) (1 + i) i f (at n wait f) (omega arith) (λ k. sym (at-other n wait f (n + (1 + i) - w) (λ e. omega arith)))))
-      (sym (pick-yes _ _ _ _ (le-leb w (n + 1 + (w - 1)) (omega arith)) (at-same n wait f (n + 1 + (w - 1) - w) (omega arith))))
+      ∙ tab-ext (w - 1) _ _ (λ i h. before-same (n + 1) (1 + i) i f (at n wait f) (omega arith) (λ k. sym (at-other n wait f (n + (1 + i) - w) (ne-eqb (n + (1 + i) - w) n (λ e. omega arith))))))
+      (sym (pick-yes _ _ _ _ (le-leb w (n + 1 + (w - 1)) (omega arith)) (at-same n wait f (n + 1 + (w - 1) - w) (eq-eqb (n + 1 + (w - 1) - w) n (omega arith)))))
       ∙ sym (tab-more (w - 1) (before w (n + 1) (at n wait f)))
       ∙ ap (λ x. tab x (before w (n + 1) (at n wait f))) {x = w - 1 + 1} {y = w} (omega arith)
 
@@ -58,9 +59,9 @@ module _ (w n : ℕ) where
       ∙ tab-ext w _ _
       (λ i j. test (eqb i (w - (n - o) + k))
       (λ e. let q = eqb-true i (w - (n - o) + k) e in
-      pick-yes _ _ _ _ e refl ∙ sym (pick-yes _ _ _ _ (le-leb w (n + i) (omega arith)) (at-same (o + k) wait f (n + i - w) (omega arith))))
+      pick-yes _ _ _ _ e refl ∙ sym (pick-yes _ _ _ _ (le-leb w (n + i) (omega arith)) (at-same (o + k) wait f (n + i - w) (eq-eqb (n + i - w) (o + k) (omega arith)))))
       (λ e. let q = eqb-false i (w - (n - o) + k) e in
-      pick-no _ _ _ _ e refl ∙ before-same n i i f (at (o + k) wait f) refl (λ a. sym (at-other (o + k) wait f (n + i - w) (λ b. q (omega arith))))))
+      pick-no _ _ _ _ e refl ∙ before-same n i i f (at (o + k) wait f) refl (λ a. sym (at-other (o + k) wait f (n + i - w) (ne-eqb (n + i - w) (o + k) (λ b. q (omega arith)))))))
 
   pub timers-later : (d : ℕ) (f : ℕ → ℕ) → map (λ t. t - d) (tab w (before w n f)) ≡ tab w (before w n (λ m. f m - d))
   timers-later d f =
@@ -86,9 +87,9 @@ module _ (o n : ℕ) (marks : ℕ → Bool) (rows : ℕ → List ℕ) where
       → window o n marks rows ++ (record { acknowledged = false; cells = row } ∷ []) ≡ window o (n + 1) marks (at n row rows)
   rows-sent row h e =
       ap₂ (λ xs x. xs ++ (x ∷ []))
-      (tab-ext (n - o) _ _ (λ i j. ap (λ r. record { acknowledged = marks (o + i); cells = r }) (sym (at-other n row rows (o + i) (λ q. omega arith)))))
+      (tab-ext (n - o) _ _ (λ i j. ap (λ r. record { acknowledged = marks (o + i); cells = r }) (sym (at-other n row rows (o + i) (ne-eqb (o + i) n (λ q. omega arith))))))
       (ap₂ (λ b r. record { acknowledged = b; cells = r })
-      (sym (ap marks {x = o + (n - o)} {y = n} (omega arith) ∙ e)) (sym (at-same n row rows (o + (n - o)) (omega arith))))
+      (sym (ap marks {x = o + (n - o)} {y = n} (omega arith) ∙ e)) (sym (at-same n row rows (o + (n - o)) (eq-eqb (o + (n - o)) n (omega arith)))))
       ∙ sym (tab-more (n - o) (λ i. kept marks (at n row rows) (o + i)))
       ∙ ap (λ x. tab x (λ i. kept marks (at n row rows) (o + i))) {x = n - o + 1} {y = n + 1 - o} (omega arith)
 

@@ -8,10 +8,11 @@ use lib.Dec.{leb, ltb}
 use borrow.Author.Tests.{lt-ltb, ltb-true}
 use lib.ListN.{length, drop, length-map}
 use Rattle.limits.specs.declared.Limits.{Limits}
-use Rattle.limits.specs.Lists.{tab, joined}
+use Rattle.limits.specs.Lists.{tab, joined, all}
 use Rattle.limits.specs.Questions.{Question, firstNo}
 use Rattle.limits.specs.Tables.{Data, Reply, capacity, put}
 use Rattle.limits.specs.Events.{Event, arriveData, reply, loseData, loseReply, tick}
+use Rattle.limits.proofs.Laws.Questions.{each}
 use Rattle.limits.proofs.Laws.Choice.{pick-yes, pick-cases}
 use Rattle.mat.specs.Rules as mat
 use Rattle.pad.specs.Rules as pad
@@ -23,7 +24,7 @@ use Rattle.link.specs.Rules as link
 use Rattle.unbounded.proofs.Laws.Reads.{Reads}
 use Rattle.agreement.specs.Reading.{dataModulo, replyModulo, matOf, padOf, reading}
 use Rattle.agreement.proofs.Laws.Events.{built, Room, Asks, Acts}
-use Rattle.agreement.proofs.Laws.Agrees.{agrees, passed}
+use Rattle.agreement.proofs.Laws.Agrees.{agrees}
 use Rattle.agreement.proofs.Laws.Tables.{length-put, table-remove, table-put, table-age}
 use Rattle.agreement.proofs.Laws.Pad.{ticked-read, run-read, run-some}
 use Rattle.agreement.proofs.Laws.Replying.{answered, replyRead, replying-read, space-read}
@@ -144,15 +145,16 @@ module _ (l : Limits) (some : 1 ≤ l .window) (supply : List ℕ) (space : ℕ)
       (record { next = refl; oldest = refl; wanted = refl; recorded = refl })
 
   pub acts-arriveData : (p : ℕ) → Reads l s → firstNo (unbounded.questions l supply space s (arriveData p)) ≡ 0 → Acts l supply buffer s (arriveData p)
+  unfolding all
   acts-arriveData p reads q =
       acts-still l supply buffer s (arriveData p) _ refl
-      (arriving-read l s p reads (ltb-true p (length (s .dataTable)) (passed (unbounded.questions l supply space s (arriveData p)) (omega arith) q .0)))
+      (arriving-read l s p reads (ltb-true p (length (s .dataTable)) (each (unbounded.questions l supply space s (arriveData p)) refl q .0)))
       (pick-cases (Still s) _ _ _
       (λ _. record { next = refl; oldest = refl; wanted = refl; recorded = refl })
       (λ _. record { next = refl; oldest = refl; wanted = refl; recorded = refl }))
 
   pub acts-reply : Reads l s → firstNo (unbounded.questions l supply space s reply) ≡ 0 → Acts l supply buffer s reply
-  unfolding reading
+  unfolding reading all
   acts-reply reads q =
       record {
         state = ap (repliedAs (reading l s)) is
@@ -172,4 +174,4 @@ module _ (l : Limits) (some : 1 ≤ l .window) (supply : List ℕ) (space : ℕ)
       }
     where
       is : pad.replying l (padOf (l .window) s) buffer ≡ replyRead l s buffer (ends.run (l .window) s)
-      is = replying-read l s buffer reads (ltb-true 0 (ends.run (l .window) s) (run-some (l .window) s some ∙ passed (unbounded.questions l supply space s reply) (omega arith) q .0))
+      is = replying-read l s buffer reads (ltb-true 0 (ends.run (l .window) s) (run-some (l .window) s some ∙ each (unbounded.questions l supply space s reply) refl q .0))

@@ -8,7 +8,7 @@ use lib.Dec.{eqb, ltb}
 use lib.ListN.{length, getD, drop, set, length-append, length-drop, length-map}
 use borrow.Author.Tests.{lt-ltb, ltb-true}
 use Rattle.limits.specs.declared.Limits.{Limits}
-use Rattle.limits.specs.Lists.{tab}
+use Rattle.limits.specs.Lists.{tab, all}
 use Rattle.limits.specs.Cells.{rowAt}
 use Rattle.limits.specs.Questions.{firstNo}
 use Rattle.limits.specs.Tables.{Message, Data}
@@ -21,7 +21,8 @@ use Rattle.unbounded.specs.Rules.{questions}
 use Rattle.unbounded.proofs.Laws.Reads.{Reads}
 use Rattle.agreement.specs.Reading.{reading, matOf, dataModulo, timerOf}
 use Rattle.agreement.proofs.Laws.Modulo.{step-modulo}
-use Rattle.agreement.proofs.Laws.Agrees.{agrees, passed, none-refused}
+use Rattle.limits.proofs.Laws.Questions.{each}
+use Rattle.agreement.proofs.Laws.Agrees.{agrees, none-refused}
 use Rattle.agreement.proofs.Laws.Tests.{leb-leb}
 use Rattle.agreement.proofs.Laws.Mat.{window-length, window-at, timer-before, timers-sent, timers-resent, rows-sent, rows-resent}
 use Rattle.agreement.proofs.Laws.Events.{Room, Asks, Acts, link-path}
@@ -118,9 +119,9 @@ module _ (l : Limits) (some : 1 ≤ l .window) (supply : List ℕ) (space : ℕ)
         )
 
     pub acts-resend : firstNo (questions l supply space s (resend k)) ≡ 0 → Acts l supply buffer s (resend k)
-    unfolding reading resending
+    unfolding reading resending all
     acts-resend e =
-        let q = passed (questions l supply space s (resend k)) (omega arith) e in
+        let q = each (questions l supply space s (resend k)) refl e in
         let h : k < s .next - s .oldest = ltb-true k (s .next - s .oldest) (q .0) in
         record {
           state =

@@ -2,7 +2,7 @@
 use Prim.Native.Nat.{ℕ, zero, suc, _+_, _-_, _≤_, _<_}
 use mathlib.Core.Path.{_≡_, refl, sym, _∙_, ap, ap₂}
 use mathlib.Core.Bool.{Bool, true, false, _&&_, and-assoc}
-use mathlib.Core.List.{List, [], _∷_, _++_, map, map-append}
+use mathlib.Core.List.{List, [], _∷_, _++_, map, map-append, append-assoc}
 use native.Mathlib.Numerals.{add-one}
 use native.Mathlib.Omega.{arith}
 use lib.Dec.{eqb, ltb}
@@ -193,3 +193,10 @@ leading-agree p q n f g same =
 
 pub all-at : {A : Type 0} (p : A → Bool) (xs : List A) (i : ℕ) (d : A) → i < length xs → all p xs ≡ true → p (getD xs i d) ≡ true
 all-at p xs i d h e = all-tab-at p (length xs) (λ j. getD xs j d) (ap (all p) (tab-self xs (length xs) d refl) ∙ e) i h
+
+-- lists one behind the other
+module _ {A : Type 0} where
+  pub joined-append : (xs ys : List (List A)) → joined (xs ++ ys) ≡ joined xs ++ joined ys
+  unfolding joined
+  joined-append [] ys = refl
+  joined-append (x ∷ xs) ys = ap (x ++_) (joined-append xs ys) ∙ sym (append-assoc x (joined xs) (joined ys))

@@ -7,17 +7,12 @@ use lib.ListN.{length, getD, drop, length-append, length-drop, List·getD-append
 use lib.Seq.{ext-getD, getD-append-add, getD-drop}
 use Rattle.limits.specs.Lists.{tab, joined}
 use Rattle.limits.proofs.Laws.Choice.{split}
-use Rattle.limits.proofs.Laws.Lists.{tab-more}
+use Rattle.limits.proofs.Laws.Lists.{tab-more, joined-append}
 use Rattle.rows.specs.Arrays.{written}
 use Rattle.rows.proofs.Laws.Cells.{length-written}
 use Rattle.rows.proofs.Laws.Changed.{changed-at, changed-other, inside, below, above}
 
 module _ {A : Type 0} where
-  joined-append : (xs ys : List (List A)) → joined (xs ++ ys) ≡ joined xs ++ joined ys
-  unfolding joined
-  joined-append [] ys = refl
-  joined-append (x ∷ xs) ys = ap (x ++_) (joined-append xs ys) ∙ sym (append-assoc x (joined xs) (joined ys))
-
   pub joined-none : (f : ℕ → List A) → joined (tab 0 f) ≡ []
   unfolding joined tab
   joined-none f = refl

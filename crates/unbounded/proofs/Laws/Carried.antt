@@ -14,6 +14,7 @@ use Rattle.limits.specs.Cells.{rowAt}
 use Rattle.limits.specs.Questions.{firstNo}
 use Rattle.limits.specs.Tables.{Message, Data, Reply, remove}
 use Rattle.limits.specs.Events.{Event, unknown, misfit, send, resend, arriveData, reply, arriveReply, loseData, loseReply, tick}
+use Rattle.limits.proofs.Laws.Lists.{joined-append}
 use Rattle.limits.proofs.Laws.Choice.{test, pick-cases, and-left, clash}
 use Rattle.limits.proofs.Laws.Good.{Good}
 use Rattle.unbounded.specs.Ends.{Ends, fresh, at, run}
@@ -46,11 +47,6 @@ fresh-carried supply space =
     }
 
 -- rows behind the front of the supply make a longer front
-joined-append : {A : Type 0} (xs ys : List (List A)) → joined (xs ++ ys) ≡ joined xs ++ joined ys
-unfolding joined
-joined-append [] ys = refl
-joined-append (x ∷ xs) ys = ap (x ++_) (joined-append xs ys) ∙ sym (append-assoc x (joined xs) (joined ys))
-
 front-more : (supply : List ℕ) (a n : ℕ) (f : ℕ → List ℕ) → ((i : ℕ) → i < n → f i ≡ rowAt supply (a + i))
     → take (16 * a) supply ++ joined (tab n f) ≡ take (16 * (a + n)) supply
 unfolding joined tab
