@@ -1,8 +1,9 @@
 // The link: opening, the call for one event, and the run.
 ghost use mathlib.Core.Path.{_≡_};
-ghost use Rattle.link.specs.State.{added};
 ghost use Rattle.link.specs.View.{freshLink, soundLink, Opened, Stepped, Ran};
 
+mod matevents;
+mod padevents;
 pub mod soundlink;
 
 use air::datatable::DataTable;

@@ -2,7 +2,7 @@
 use Prim.Native.Nat.{ℕ}
 use mathlib.Core.Path.{_≡_, refl, sym, ap}
 use lib.Dec.{eqb}
-use borrow.Author.Tests.{eq-eqb, ne-eqb, eqb-true}
+use borrow.Author.Tests.{eqb-true}
 use Rattle.limits.proofs.Laws.Choice.{test, pick-yes, pick-no}
 use Rattle.unbounded.specs.Ends.{at}
 

@@ -1,19 +1,18 @@
 -- A reply of the table arrives at the mat.
 use Prim.Native.Nat.{ℕ, _<_}
 use mathlib.Core.Path.{_≡_, refl, sym, _∙_, ap}
-use mathlib.Core.Bool.{true, false}
-use mathlib.Core.List.{List, [], _++_}
-use lib.Dec.{eqb}
+use mathlib.Core.Bool.{true}
+use mathlib.Core.List.{List, _++_}
 use lib.ListN.{length, getD}
 use Rattle.limits.specs.Answer.{numberOf}
 use Rattle.limits.specs.Lists.{all}
-use Rattle.limits.specs.Questions.{Question, firstNo, Answers, Called}
+use Rattle.limits.specs.Questions.{firstNo}
 use Rattle.limits.specs.Tables.{Message, Reply, remove, soundReply}
 use Rattle.limits.specs.Events.{arriveReply}
 use Rattle.limits.proofs.Laws.Promise.{called-done, done-of, none-no}
 use Rattle.limits.proofs.Laws.Questions.{behind-passed}
 use Rattle.mat.specs.declared.Acknowledged.{Acknowledged}
-use Rattle.mat.specs.Rules.{Acknowledging, acknowledgeQuestions, acknowledging}
+use Rattle.mat.specs.Rules.{acknowledgeQuestions, acknowledging}
 use Rattle.mat.specs.View.{matState, AcknowledgeCall}
 use Rattle.pad.specs.View.{padState}
 use Rattle.air.specs.declared.replytable.ReplyAnswer.{ReplyAnswer}
@@ -22,12 +21,9 @@ use Rattle.air.specs.Rules.{placeQuestions}
 use Rattle.air.specs.Data.{dataMessages}
 use Rattle.air.specs.Replies.{replyMessages, noReply, ReplyCall, ReplyReading}
 use Rattle.link.specs.declared.Link.{Link}
-use Rattle.link.specs.declared.Progress.{Progress}
-use Rattle.link.specs.State.{LinkState, Moved}
-use Rattle.link.specs.View.{linkState, soundLink, Moves}
+use Rattle.link.specs.View.{linkState, Moves}
 use Rattle.link.proofs.Laws.Parts.{Parts, whole}
 use Rattle.link.proofs.Laws.Messages.{found, reply-at-sound}
-use Rattle.link.proofs.Laws.Tables.{place-found}
 
 module _ (k : Link) (p : Parts k) (n : ℕ) (read : ReplyRead) (c : ReplyReading (k .replies) n (placeQuestions n (replyMessages (k .replies))) read)
     (e : numberOf (read .answer) ≡ 0) where

@@ -1,15 +1,15 @@
 -- A data message of the table arrives at the pad.
-use Prim.Native.Nat.{ℕ, _*_, _<_}
-use mathlib.Core.Path.{_≡_, refl, sym, _∙_, ap, ap₂}
+use Prim.Native.Nat.{ℕ, _<_}
+use mathlib.Core.Path.{_≡_, refl, sym, _∙_, ap}
 use mathlib.Core.Bool.{Bool, true, false, not, _||_}
 use mathlib.Core.List.{List, [], _∷_, _++_}
-use lib.Dec.{eqb, ltb}
+use lib.Dec.{ltb}
 use lib.ListN.{length, getD}
 use Rattle.limits.specs.Answer.{numberOf}
 use Rattle.limits.specs.Lists.{all}
 use Rattle.limits.specs.declared.answer.Answer.the-variants.{Done}
-use Rattle.limits.specs.Questions.{pick, Question, ask, firstNo, Answers, Called}
-use Rattle.limits.specs.Tables.{Message, Data, Reply, capacity, put, remove, soundData, soundReply}
+use Rattle.limits.specs.Questions.{pick, Question, ask, firstNo, Called}
+use Rattle.limits.specs.Tables.{Message, Data, capacity, put, remove, soundData, soundReply}
 use Rattle.limits.specs.Events.{arriveData}
 use Rattle.limits.proofs.Laws.Choice.{pick-yes, pick-no}
 use Rattle.limits.proofs.Laws.Messages.{message-low}
@@ -18,7 +18,7 @@ use Rattle.limits.proofs.Laws.Questions.{behind-passed}
 use Rattle.mat.specs.View.{matState}
 use Rattle.pad.specs.declared.Arrived.{Arrived}
 use Rattle.pad.specs.Rules.{Arrival, arrival}
-use Rattle.pad.specs.View.{padState, soundPad, shownArrival, ArriveCall}
+use Rattle.pad.specs.View.{padState, shownArrival, ArriveCall}
 use Rattle.pad.proofs.Laws.Messages.{single-sound}
 use Rattle.air.specs.declared.datatable.DataRead.{DataRead}
 use Rattle.air.specs.Rules.{placeQuestions, roomQuestions}
@@ -26,8 +26,8 @@ use Rattle.air.specs.Data.{dataMessages, noData, DataReading}
 use Rattle.air.specs.Replies.{replyMessages}
 use Rattle.link.specs.declared.Link.{Link}
 use Rattle.link.specs.declared.Progress.{Progress}
-use Rattle.link.specs.State.{LinkState, noCounts, unmoved}
-use Rattle.link.specs.Rules.{replyOut, oldTaken, newTaken}
+use Rattle.link.specs.State.{noCounts, unmoved}
+use Rattle.link.specs.Rules.{oldTaken, newTaken}
 use Rattle.link.specs.View.{linkState, soundLink, shown, Moves}
 use Rattle.link.proofs.Laws.Parts.{Parts}
 use Rattle.link.proofs.Laws.Messages.{found, data-at-sound, old-is}

@@ -9,15 +9,14 @@ use borrow.Author.Tests.{eq-eqb, ne-eqb, le-leb, lt-leb}
 use Rattle.limits.specs.declared.answer.Answer.{Answer}
 use Rattle.limits.specs.declared.answer.Answer.the-variants.{Done, Unsound, OddEvents, PartialRow, ShortAnswers}
 use Rattle.limits.specs.Answer.{numberOf}
-use Rattle.limits.specs.Questions.{Question, ask, firstNo, Called}
+use Rattle.limits.specs.Questions.{Question, ask, firstNo}
 use Rattle.limits.specs.Events.{event}
 use Rattle.limits.proofs.Laws.Choice.{pick-yes, pick-no}
 use Rattle.limits.proofs.Laws.Promise.{called-as, called-done, called-refused}
 use Rattle.link.specs.declared.Link.{Link}
 use Rattle.link.specs.declared.Progress.{Progress}
-use Rattle.link.specs.State.{unmoved}
 use Rattle.link.specs.Rules.{questions}
-use Rattle.link.specs.View.{linkState, soundLink, shown, Moves, Stepped, Ran, Run, wholeRows, lentQuestions, running}
+use Rattle.link.specs.View.{linkState, soundLink, shown, Moves, Stepped, Ran, wholeRows, lentQuestions, running}
 use Rattle.link.proofs.Laws.Stays.{Stayed, shown-stays, stays-refused}
 
 -- a question that is answered no, and one that is passed, in front of others

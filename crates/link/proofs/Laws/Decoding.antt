@@ -1,15 +1,13 @@
 -- Which event two bytes are, and a promise by another name of the event.
 use Prim.Native.Nat.{ℕ, _≤_, _<_}
-use mathlib.Core.Path.{_≡_, refl, sym, _∙_}
+use mathlib.Core.Path.{_≡_, refl, sym}
 use mathlib.Core.Bool.{false}
 use mathlib.Core.List.{List}
-use native.Mathlib.Omega.{arith}
-use lib.Dec.{eqb, leb}
 use borrow.Author.Tests.{ne-eqb, le-leb, lt-leb}
 use Rattle.limits.specs.declared.answer.Answer.the-variants.{UnknownKind, BadArgument}
 use Rattle.limits.specs.Questions.{pick}
 use Rattle.limits.specs.Events.{Event, event, unknown, misfit, send, resend, arriveData, reply, arriveReply, loseData, loseReply, tick}
-use Rattle.limits.proofs.Laws.Choice.{pick-yes, pick-no}
+use Rattle.limits.proofs.Laws.Choice.{pick-no}
 use Rattle.link.specs.declared.Link.{Link}
 use Rattle.link.specs.declared.Progress.{Progress}
 use Rattle.link.specs.View.{Moves}

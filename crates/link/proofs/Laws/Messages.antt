@@ -1,18 +1,18 @@
 -- A message found in a sound table is sound, and the pad's answer to one is an old row or a row of the window.
 use Prim.Native.Nat.{ℕ, _*_, _<_}
-use mathlib.Core.Path.{_≡_, refl, sym, _∙_, ap}
-use mathlib.Core.Bool.{Bool, true, false, _&&_}
+use mathlib.Core.Path.{_≡_, refl, ap}
+use mathlib.Core.Bool.{Bool, true, false}
 use mathlib.Core.List.{List}
 use lib.Dec.{leb, ltb}
 use lib.ListN.{length, getD}
 use borrow.Author.Tests.{ltb-true}
 use Rattle.limits.specs.declared.Limits.{Limits}
 use Rattle.limits.specs.Lists.{all}
-use Rattle.limits.specs.Questions.{pick, firstNo}
+use Rattle.limits.specs.Questions.{firstNo}
 use Rattle.limits.specs.Limits.{between}
 use Rattle.limits.specs.Ring.{distance}
-use Rattle.limits.specs.Tables.{Message, Data, Reply, capacity, soundData, soundReply}
-use Rattle.limits.proofs.Laws.Choice.{and-left, and-right, pick-yes, pick-no, test, clash}
+use Rattle.limits.specs.Tables.{Message, Data, capacity, soundData, soundReply}
+use Rattle.limits.proofs.Laws.Choice.{and-right, pick-yes, pick-no, test, clash}
 use Rattle.limits.proofs.Laws.Lists.{all-at}
 use Rattle.limits.proofs.Laws.Questions.{each}
 use Rattle.air.specs.declared.datatable.DataTable.{DataTable}

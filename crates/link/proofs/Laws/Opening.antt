@@ -1,5 +1,5 @@
 -- A fresh link, and what an opening promises.
-use mathlib.Core.Path.{_≡_, refl, sym, _∙_, ap}
+use mathlib.Core.Path.{_≡_, refl, _∙_, ap}
 use mathlib.Core.Bool.{Bool, true, false}
 use mathlib.Core.List.{List}
 use lib.Dec.{eqb}
@@ -14,7 +14,6 @@ use Rattle.air.specs.declared.datatable.DataTable.{DataTable}
 use Rattle.air.specs.declared.replytable.ReplyTable.{ReplyTable}
 use Rattle.air.specs.Data.{emptyData}
 use Rattle.air.specs.Replies.{emptyReplies}
-use Rattle.link.specs.declared.Link.{Link}
 use Rattle.link.specs.View.{freshLink}
 
 pub link-fresh : (l : Limits) (m : Mat) (p : Pad) (d : DataTable) (r : ReplyTable) → m ≡ freshMat → p ≡ freshPad → d ≡ emptyData → r ≡ emptyReplies

@@ -1,17 +1,16 @@
 -- The run at wanted is recorded, and its reply put in the air.
 use Prim.Native.Nat.{ℕ, _*_, _<_, _≤_}
 use mathlib.Core.Path.{_≡_, refl, sym, _∙_, ap}
-use mathlib.Core.Bool.{Bool, true, false}
+use mathlib.Core.Bool.{true, false}
 use mathlib.Core.List.{List, [], _∷_, _++_}
 use native.Mathlib.Omega.{arith}
 use lib.Dec.{eqb, leb, ltb}
 use lib.ListN.{length}
 use borrow.Author.Tests.{ltb-true, lt-ltb, le-leb, lt-leb}
-use Rattle.limits.specs.declared.answer.Answer.{Answer}
 use Rattle.limits.specs.declared.answer.Answer.the-variants.{Done}
 use Rattle.limits.specs.Answer.{numberOf}
 use Rattle.limits.specs.Lists.{all}
-use Rattle.limits.specs.Questions.{Question, ask, firstNo, Answers, Called}
+use Rattle.limits.specs.Questions.{Question, ask, firstNo, Answers}
 use Rattle.limits.specs.Tables.{capacity, put, soundReply}
 use Rattle.limits.specs.Events.{reply}
 use Rattle.limits.proofs.Laws.Choice.{pick-yes, pick-no}
@@ -30,8 +29,6 @@ use Rattle.air.specs.Rules.{roomQuestions}
 use Rattle.air.specs.Data.{dataMessages}
 use Rattle.air.specs.Replies as air
 use Rattle.link.specs.declared.Link.{Link}
-use Rattle.link.specs.declared.Progress.{Progress}
-use Rattle.link.specs.State.{LinkState, Moved}
 use Rattle.link.specs.View.{linkState, Moves}
 use Rattle.link.proofs.Laws.Parts.{Parts, whole}
 

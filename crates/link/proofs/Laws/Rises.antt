@@ -1,21 +1,21 @@
 -- How far an event can raise the counts: no row is sent that the supply has not, none recorded that the record has not, and
 -- rows acknowledged were outstanding.
-use Prim.Native.Nat.{ℕ, _+_, _-_, _*_, _≤_, _<_}
-use mathlib.Core.Path.{_≡_, refl, sym, _∙_, ap}
-use mathlib.Core.Bool.{Bool, true, false}
-use mathlib.Core.List.{List, [], _∷_, _++_}
+use Prim.Native.Nat.{ℕ, _+_, _-_, _*_, _≤_}
+use mathlib.Core.Path.{_≡_, refl, ap}
+use mathlib.Core.Bool.{false}
+use mathlib.Core.List.{List, [], _∷_}
 use native.Mathlib.Omega.{arith}
-use lib.Dec.{eqb, leb, ltb}
-use lib.ListN.{length, drop, length-append, length-drop}
+use lib.Dec.{eqb}
+use lib.ListN.{length, length-append, length-drop}
 use borrow.Author.Tests.{eqb-true, leb-true}
-use Rattle.limits.specs.Lists.{tab, all, leading}
-use Rattle.limits.specs.Questions.{pick, firstNo}
+use Rattle.limits.specs.Lists.{all, leading}
+use Rattle.limits.specs.Questions.{firstNo}
 use Rattle.limits.specs.Events.{Event, unknown, misfit, send, resend, arriveData, reply, arriveReply, loseData, loseReply, tick}
 use Rattle.limits.specs.Tables.{span}
 use Rattle.limits.proofs.Laws.Choice.{pick-cases}
 use Rattle.limits.proofs.Laws.Lists.{length-tab, leading-most}
 use Rattle.limits.proofs.Laws.Questions.{each, front-passed}
-use Rattle.mat.specs.Window.{Kept, MatState, outstanding}
+use Rattle.mat.specs.Window.{Kept, outstanding}
 use Rattle.mat.specs.Rules as mat
 use Rattle.pad.specs.Rules as pad
 use Rattle.air.specs.Rules.{roomQuestions}

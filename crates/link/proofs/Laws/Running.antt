@@ -1,12 +1,12 @@
 -- The run's loop: what is left to do, from where it has come to, is the whole run from its start.
 use Prim.Native.Nat.{ℕ, suc, _+_, _-_, _*_, _/_, _%_, _≤_, _<_}
 use mathlib.Core.Path.{_≡_, refl, sym, _∙_, ap, ap₂}
-use mathlib.Core.Bool.{Bool, true, false}
+use mathlib.Core.Bool.{true, false}
 use mathlib.Core.List.{List, [], _∷_, _++_, append-assoc, append-nil}
 use native.Mathlib.Omega.{arith}
 use lib.Dec.{eqb}
-use lib.ListN.{length, take, drop, getD, set, length-append, length-take, length-drop, length-set, take-append-drop, drop-of-length-le}
-use lib.Seq.{drop-cons, take-suc-set, drop-set-lt, drop-drop, drop-length, length-take-le, take-all}
+use lib.ListN.{length, take, drop, getD, set, length-append, length-drop, length-set, take-append-drop, drop-of-length-le}
+use lib.Seq.{drop-cons, take-suc-set, drop-set-lt, drop-drop, length-take-le, take-all}
 use native.Mathlib.Numerals.{add-one}
 use borrow.Author.Tests.{eqb-false}
 use native.Mathlib.Nat.{add-zero}
@@ -21,11 +21,11 @@ use Rattle.link.specs.declared.Link.{Link}
 use Rattle.link.specs.declared.Counts.{Counts}
 use Rattle.link.specs.declared.Progress.{Progress}
 use Rattle.link.specs.State.{Moved, noCounts, added, unmoved}
-use Rattle.link.specs.Rules.{answer, stepped}
+use Rattle.link.specs.Rules.{stepped}
 use Rattle.link.specs.Runs.{continued, next, afterAll, answers}
 use Rattle.link.specs.View.{linkState, soundLink, shown, Moves, running}
 use Rattle.link.proofs.Laws.Parts.{parts}
-use Rattle.link.proofs.Laws.Rises.{Rises, rises-of}
+use Rattle.link.proofs.Laws.Rises.{rises-of}
 
 abbrev pub reached : Link → Counts → List ℕ → Moved
 reached link counts rec = record { state = linkState link; counts = counts; buffer = rec }

@@ -1,6 +1,6 @@
 -- The mat's sendings, put in the air.
 use Prim.Native.Nat.{ℕ}
-use mathlib.Core.Path.{_≡_, refl, sym, _∙_, ap}
+use mathlib.Core.Path.{_≡_, sym, _∙_, ap}
 use mathlib.Core.Bool.{true, false}
 use mathlib.Core.List.{List, _++_}
 use lib.Dec.{eqb}
@@ -11,7 +11,7 @@ use Rattle.limits.proofs.Laws.Promise.{called-as, done-of, none-no}
 use Rattle.limits.proofs.Laws.Questions.{numbered, behind-passed, more-stays}
 use Rattle.mat.specs.declared.Sent.{Sent}
 use Rattle.mat.specs.Rules.{Sending}
-use Rattle.mat.specs.View.{matState, soundMat, SendCall}
+use Rattle.mat.specs.View.{matState, SendCall}
 use Rattle.air.specs.Rules.{roomQuestions}
 use Rattle.air.specs.Data.{dataMessages}
 use Rattle.link.specs.declared.Link.{Link}

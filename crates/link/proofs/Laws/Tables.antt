@@ -1,18 +1,18 @@
 -- A link with another table: what putting, removing and full lives make of it.
-use Prim.Native.Nat.{ℕ, _≤_, _<_}
-use mathlib.Core.Path.{_≡_, refl, sym, _∙_, ap, ap₂}
-use mathlib.Core.Bool.{Bool, true, false}
+use Prim.Native.Nat.{ℕ, _<_}
+use mathlib.Core.Path.{_≡_, refl, _∙_, ap, ap₂}
+use mathlib.Core.Bool.{Bool, true}
 use mathlib.Core.List.{List}
 use native.Mathlib.Omega.{arith}
-use lib.Dec.{eqb, ltb}
+use lib.Dec.{eqb}
 use lib.ListN.{length}
-use borrow.Author.Tests.{lt-ltb, eq-eqb}
+use borrow.Author.Tests.{lt-ltb}
 use Rattle.limits.specs.declared.Limits.{Limits}
 use Rattle.limits.specs.declared.answer.Answer.{Answer}
 use Rattle.limits.specs.declared.answer.Answer.the-variants.{Done}
 use Rattle.limits.specs.Answer.{numberOf}
 use Rattle.limits.specs.Questions.{pick, Question, firstNo, Called}
-use Rattle.limits.specs.Tables.{Message, Data, Reply, put, remove, soundData, soundReply}
+use Rattle.limits.specs.Tables.{Data, Reply, put, remove, soundData, soundReply}
 use Rattle.limits.specs.Events.{loseData, loseReply}
 use Rattle.limits.proofs.Laws.Choice.{both, pick-yes}
 use Rattle.limits.proofs.Laws.Good.{good, in-between}
@@ -29,8 +29,8 @@ use Rattle.air.specs.Data.{dataMessages, soundDataMessage, DataCall}
 use Rattle.air.specs.Replies.{replyMessages, soundReplyMessage, ReplyCall}
 use Rattle.link.specs.declared.Link.{Link}
 use Rattle.link.specs.declared.Progress.{Progress}
-use Rattle.link.specs.State.{LinkState, Moved, noCounts, unmoved}
-use Rattle.link.specs.Rules.{sentOut, replyOut, oldTaken, newTaken}
+use Rattle.link.specs.State.{LinkState, noCounts, unmoved}
+use Rattle.link.specs.Rules.{sentOut, oldTaken, newTaken}
 use Rattle.link.specs.View.{linkState, soundLink, shown, Moves}
 use Rattle.link.proofs.Laws.Parts.{Parts, whole}
 use Rattle.link.proofs.Laws.Opening.{pick-under}

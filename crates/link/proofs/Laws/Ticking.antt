@@ -2,10 +2,8 @@
 use Prim.Native.Nat.{ℕ, _≤_}
 use mathlib.Core.Path.{_≡_, refl, sym, _∙_}
 use mathlib.Core.List.{List, []}
-use mathlib.Core.Bool.{true}
 use Rattle.limits.specs.declared.answer.Answer.the-variants.{Done}
-use Rattle.limits.specs.Answer.{numberOf}
-use Rattle.limits.specs.Questions.{firstNo, Answers, Called, timeQuestions}
+use Rattle.limits.specs.Questions.{firstNo, timeQuestions}
 use Rattle.limits.specs.Tables.{age}
 use Rattle.limits.specs.Events.{tick}
 use Rattle.limits.proofs.Laws.Promise.{done-of, time-passed}

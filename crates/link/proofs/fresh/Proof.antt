@@ -1,31 +1,20 @@
 use borrow.Author.Needs.{needs}
 use Rattle.link.proofs.fresh.Statement.{statement}
 use Rattle.link.proofs.fresh.Tie as tie
-use Rattle.link.proofs.fresh.Reads as reads
-use Rattle.link.proofs.fresh.Lts as lts
-use Rattle.air.proofs.datatable.empty.Reads as datatable-empty-reads
-use Rattle.air.proofs.replytable.empty.Reads as replytable-empty-reads
-use Rattle.mat.proofs.fresh.Reads as fresh-reads
-use Rattle.pad.proofs.fresh.Reads as fresh-reads′
 use Rattle.link.proofs.Laws.Opening.{link-fresh}
 
--- src/lib.rt:47:14
 fresh-requires : tie.Need-fresh-requires
 fresh-requires c κs = search needs
 
--- src/lib.rt:48:14
 fresh-requires-2 : tie.Need-fresh-requires-2
 fresh-requires-2 c κs = search needs
 
--- src/lib.rt:49:16
 empty-requires : tie.Need-empty-requires
 empty-requires c κs = search needs
 
--- src/lib.rt:50:18
 empty-requires-2 : tie.Need-empty-requires-2
 empty-requires-2 c κs = search needs
 
--- src/lib.rt:42:1
 returns : tie.Need-returns
 returns c = link-fresh _ _ _ _ _ (c .before .before .before .fresh .ensures) (c .before .before .fresh2 .ensures) (c .before .empty .ensures) (c .empty2 .ensures)
 

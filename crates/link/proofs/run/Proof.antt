@@ -1,67 +1,49 @@
 use borrow.Author.Needs.{needs}
 use Rattle.link.proofs.run.Statement.{statement}
 use Rattle.link.proofs.run.Tie as tie
-use Rattle.link.proofs.run.Reads as reads
-use Rattle.link.proofs.run.Lts as lts
-use Rattle.link.proofs.sound.Reads as sound-reads
-use Rattle.link.proofs.soundlink.run.Reads as run-reads
-use Rattle.link.proofs.soundlink.stays.Reads as stays-reads
 use mathlib.Core.Path.{sym, _∙_}
 use Rattle.link.proofs.Laws.Calls.{run-unsound, run-odd, run-partial, run-short, run-done}
 
--- src/lib.rt:95:8
 sound-requires : tie.Need-sound-requires
 sound-requires c κs = search needs
 
--- src/lib.rt:100:21
 run-requires : tie.Need-run-requires
 run-requires c κs = let f = c .before .before in let s = f .before .before .before .before in (sym (s .sound .ensures) ∙ f .before .before .before .if1 .taken, f .before .before .if2 .taken, f .if4 .taken)
 
--- src/lib.rt:102:21
 stays-requires : tie.Need-stays-requires
 stays-requires c κs = search needs
 
--- src/lib.rt:105:17
 stays-requires-2 : tie.Need-stays-requires-2
 stays-requires-2 c κs = search needs
 
--- src/lib.rt:108:13
 stays-requires-3 : tie.Need-stays-requires-3
 stays-requires-3 c κs = search needs
 
--- src/lib.rt:111:9
 stays-requires-4 : tie.Need-stays-requires-4
 stays-requires-4 c κs = search needs
 
--- src/lib.rt:91:1
 same-length : tie.Need-same-length
 same-length c = search needs
 
--- src/lib.rt:91:1
 same-length-2 : tie.Need-same-length-2
 same-length-2 c = search needs
 
--- src/lib.rt:91:1
 returns : tie.Need-returns
 returns c = let r = c .before .before .before .before in let f = r .before .before .before in let s = f .before .before .before .before in
     run-done _ (s .before .before .before .before .before .args .events .now) _ _ _ _ (sym (s .sound .ensures) ∙ f .before .before .before .if1 .taken) (f .before .before .if2 .taken) (f .before .if3 .taken) _ _ (f .if4 .taken) (r .run .ensures)
 
--- src/lib.rt:91:1
 returns-2 : tie.Need-returns-2
 returns-2 c = let f = c .before in let s = f .before .before .before .before in
     run-short _ (s .before .before .before .before .before .args .events .now) _ _ _ _ (sym (s .sound .ensures) ∙ f .before .before .before .if1 .taken) (f .before .before .if2 .taken) (f .before .if3 .taken) (f .if4 .left) (c .stays .ensures)
 
--- src/lib.rt:91:1
 returns-3 : tie.Need-returns-3
 returns-3 c = let f = c .before in let s = f .before .before .before in
     run-partial _ (s .before .before .before .before .before .args .events .now) _ _ _ _ (sym (s .sound .ensures) ∙ f .before .before .if1 .taken) (f .before .if2 .taken) (f .if3 .left) (c .stays2 .ensures)
 
--- src/lib.rt:91:1
 returns-4 : tie.Need-returns-4
 returns-4 c = let f = c .before in let s = f .before .before in
     run-odd _ (s .before .before .before .before .before .args .events .now) _ _ _ _ (sym (s .sound .ensures) ∙ f .before .if1 .taken) (f .if2 .left) (c .stays3 .ensures)
 
--- src/lib.rt:91:1
 returns-5 : tie.Need-returns-5
 returns-5 c = let f = c .before in let s = f .before in
     run-unsound _ (s .before .before .before .before .before .args .events .now) _ _ _ _ (sym (s .sound .ensures) ∙ f .if1 .left) (c .stays4 .ensures)

@@ -1,29 +1,21 @@
 use borrow.Author.Needs.{needs}
 use Rattle.link.proofs.sound.Statement.{statement}
 use Rattle.link.proofs.sound.Tie as tie
-use Rattle.link.proofs.sound.Reads as reads
-use Rattle.link.proofs.sound.Lts as lts
-use Rattle.limits.proofs.sound_limits.Reads as sound-limits-reads
-use Rattle.link.proofs.soundlink.parts_sound.Reads as parts-sound-reads
 use mathlib.Core.Path.{sym, _∙_}
 use Rattle.limits.proofs.Laws.Choice.{and-goes-on, and-stops}
 use Rattle.link.specs.View.{soundLink}
 use Rattle.limits.specs.Limits.{soundLimits}
 
--- src/lib.rt:72:5
 sound-limits-requires : tie.Need-sound-limits-requires
 sound-limits-requires c κs = search needs
 
--- src/lib.rt:72:32
 parts-sound-requires : tie.Need-parts-sound-requires
 parts-sound-requires c κs = sym (c .before .sound-limits .ensures) ∙ c .if1 .taken
 
--- src/lib.rt:68:1
 returns : tie.Need-returns
 unfolding soundLink
 returns c = c .parts-sound .ensures ∙ and-goes-on (soundLimits (c .before .before .before .before .args .k .limits)) _ (sym (c .before .before .sound-limits .ensures) ∙ c .before .if1 .taken)
 
--- src/lib.rt:68:1
 returns-2 : tie.Need-returns-2
 unfolding soundLink
 returns-2 c = c .before .sound-limits .ensures ∙ and-stops (soundLimits (c .before .before .before .args .k .limits)) _ (sym (c .before .sound-limits .ensures) ∙ c .if1 .left)

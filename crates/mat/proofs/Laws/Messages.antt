@@ -1,11 +1,10 @@
 -- The messages that a sound mat sends are sound.
-use Prim.Native.Nat.{ℕ, _+_, _*_, _<_}
-use mathlib.Core.Path.{_≡_, refl, sym, _∙_, ap}
+use Prim.Native.Nat.{ℕ, _*_, _<_}
+use mathlib.Core.Path.{_≡_, refl, _∙_, ap}
 use mathlib.Core.Bool.{true}
-use mathlib.Core.List.{List, [], _∷_}
+use mathlib.Core.List.{List}
 use native.Mathlib.Omega.{arith}
-use lib.Dec.{leb, ltb, eqb}
-use lib.ListN.{length, take, getD}
+use lib.ListN.{length}
 use borrow.Author.Tests.{ltb-true}
 use Rattle.limits.specs.declared.Limits.{Limits}
 use Rattle.limits.specs.Lists.{tab, all}

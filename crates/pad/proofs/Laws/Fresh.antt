@@ -1,6 +1,6 @@
 -- A fresh pad is sound and holds no row.
-use Prim.Native.Nat.{ℕ, _+_, _%_, _≤_, _<_}
-use mathlib.Core.Path.{_≡_, refl, _∙_, ap}
+use Prim.Native.Nat.{ℕ, _+_, _%_, _<_}
+use mathlib.Core.Path.{_≡_, ap}
 use mathlib.Core.Bool.{true, false}
 use native.Mathlib.Omega.{arith}
 use native.Mathlib.Nat.{mod-lt}
@@ -8,7 +8,7 @@ use lib.ListN.{getD, getD-replicate}
 use Rattle.limits.specs.declared.Limits.{Limits}
 use Rattle.limits.specs.Limits.{soundLimits}
 use Rattle.limits.specs.Lists.{tab}
-use Rattle.limits.proofs.Laws.Good.{Good, good}
+use Rattle.limits.proofs.Laws.Good.{good}
 use Rattle.limits.proofs.Laws.Lists.{tab-ext}
 use Rattle.pad.specs.Window.{empty}
 use Rattle.pad.specs.View.{slotAt, padState, freshPad, soundSlot, soundPad}

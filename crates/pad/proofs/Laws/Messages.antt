@@ -1,15 +1,14 @@
 -- The replies that a sound pad gives are sound.
 use Prim.Native.Nat.{ℕ, _+_, _-_, _*_, _≤_, _<_}
-use mathlib.Core.Path.{_≡_, refl, sym, _∙_, ap}
+use mathlib.Core.Path.{_≡_}
 use mathlib.Core.Bool.{true}
 use mathlib.Core.List.{List}
 use native.Mathlib.Omega.{arith}
-use lib.ListN.{length}
 use Rattle.limits.specs.declared.Limits.{Limits}
 use Rattle.limits.specs.Lists.{tab}
-use Rattle.limits.specs.Ring.{distance, step, place}
+use Rattle.limits.specs.Ring.{step, place}
 use Rattle.limits.specs.Limits.{soundLimits}
-use Rattle.limits.specs.Tables.{Reply, span, soundReply}
+use Rattle.limits.specs.Tables.{span, soundReply}
 use Rattle.limits.proofs.Laws.Good.{good}
 use Rattle.limits.proofs.Laws.Lists.{length-tab, leading-most}
 use Rattle.limits.proofs.Laws.Messages.{reply-sound}

@@ -5,19 +5,15 @@ use Rattle.lines.specs.Text.{refusedLine}
 use Rattle.lines.proofs.Laws.Text.{same-wrote}
 use mathlib.Core.Path.{ap}
 
--- src/lib.rt:31:42
 number-requires : tie.Need-number-requires
 number-requires c κs = search needs
 
--- src/lib.rt:31:5
 refused-line-requires : tie.Need-refused-line-requires
 refused-line-requires c κs = search needs
 
--- src/lib.rt:27:1
 same-length : tie.Need-same-length
 same-length c = search needs
 
--- src/lib.rt:27:1
 returns : tie.Need-returns
 returns c = same-wrote _ _ _ _ _ _ (ap refusedLine (c .before .before .before .number .ensures)) (c .before .before .refused-line .ensures)
 

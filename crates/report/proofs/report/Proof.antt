@@ -3,19 +3,15 @@ use Rattle.report.proofs.report.Statement.{statement}
 use Rattle.report.proofs.report.Tie as tie
 use Rattle.report.proofs.Laws.Trial.{reported, not-reported}
 
--- src/lib.rt:84:13
 text-requires : tie.Need-text-requires
 text-requires c κs = search needs
 
--- src/lib.rt:79:1
 same-length : tie.Need-same-length
 same-length c = search needs
 
--- src/lib.rt:79:1
 returns : tie.Need-returns
 returns c = reported _ _ _ _ (c .before .before .before .before .if1 .taken) (c .before .before .text .ensures)
 
--- src/lib.rt:79:1
 returns-2 : tie.Need-returns-2
 returns-2 c = not-reported _ _ (c .if1 .left)
 

@@ -2,117 +2,90 @@ use borrow.Author.Needs.{needs}
 use Rattle.report.proofs.ridden.Statement.{statement}
 use Rattle.report.proofs.ridden.Tie as tie
 use native.Mathlib.Omega.{arith}
-use Rattle.report.proofs.Laws.Trial.{is-readable, front-length, ride-refused, ride-text, ride-room}
+use Rattle.report.proofs.Laws.Trial.{is-readable, front-length, ride-refused, ride-text, ride-room, cells-length, events-part, rows-part, rows-long}
 use mathlib.Core.Path.{sym, ap}
 use Rattle.limits.specs.Answer.{numberOf}
 use Rattle.limits.proofs.Laws.Promise.{not-done}
 use Rattle.lines.proofs.Laws.Text.{same-wrote}
-use Rattle.report.proofs.Laws.Trial.{is-readable, front-length, cells-length, events-part, rows-part, rows-long, ride-refused, ride-text, ride-room}
 
--- src/lib.rt:64:9
 limits-of-requires : tie.Need-limits-of-requires
 limits-of-requires c κs = search needs
 
--- src/lib.rt:65:9
 event-start-requires : tie.Need-event-start-requires
 event-start-requires c κs = search needs
 
--- src/lib.rt:66:22
 row-count-requires : tie.Need-row-count-requires
 row-count-requires c κs = search needs
 
--- src/lib.rt:66:17
 mul-cells : tie.Need-mul-cells
 mul-cells c = search needs
 
--- src/lib.rt:67:18
 supply-of-requires : tie.Need-supply-of-requires
 supply-of-requires c κs = search needs
 
--- src/lib.rt:68:22
 no-cells-requires : tie.Need-no-cells-requires
 no-cells-requires c κs = search needs
 
--- src/lib.rt:69:23
 no-answers-requires : tie.Need-no-answers-requires
 no-answers-requires c κs = search needs
 
--- src/lib.rt:70:37
 sub-ride : tie.Need-sub-ride
 sub-ride c = let h = is-readable _ (c .before .before .before .before .before .before .before .before .pre .0) in omega arith
 
--- src/lib.rt:70:37
 part-ride-start : tie.Need-part-ride-start
 part-ride-start c = let h = is-readable _ (c .before .before .before .before .before .before .before .before .pre .0) in omega arith
 
--- src/lib.rt:70:37
 part-ride-end : tie.Need-part-ride-end
 part-ride-end c = search needs
 
--- src/lib.rt:70:54
 array-share-prefix-supply : tie.Need-array-share-prefix-supply
 array-share-prefix-supply c = search needs
 
--- src/lib.rt:70:54
 slice-aggregate-ride : tie.Need-slice-aggregate-ride
 slice-aggregate-ride c = sym (front-length _ _ (cells-length _ _ (c .before .before .before .before .supply-of .ensures)) (c .before .before .before .before .before .row-count .ensures .1))
 
--- src/lib.rt:70:72
 array-borrow-prefix-record : tie.Need-array-borrow-prefix-record
 array-borrow-prefix-record c = search needs
 
--- src/lib.rt:70:72
 slice-aggregate-ride-2 : tie.Need-slice-aggregate-ride-2
 slice-aggregate-ride-2 c = sym (front-length _ _ (c .before .before .before .before .no-cells .ensures) (c .before .before .before .before .before .before .row-count .ensures .1))
 
--- src/lib.rt:70:94
 slice-aggregate-ride-3 : tie.Need-slice-aggregate-ride-3
 slice-aggregate-ride-3 c = search needs
 
--- src/lib.rt:70:9
 ride-requires : tie.Need-ride-requires
 ride-requires c κs = search needs
 
 enum-told : tie.Need-enum-told
 enum-told c = search needs
 
--- src/lib.rt:73:9
 refused-requires : tie.Need-refused-requires
 refused-requires c κs = search needs
 
--- src/lib.rt:73:9
 same-length : tie.Need-same-length
 same-length c = search needs
 
--- src/lib.rt:73:9
 returns : tie.Need-returns
 returns c = same-wrote _ _ _ _ _ _ (ride-refused _ (c .before .before .before .before .before .before .before .before .before .before .before .before .before .before .before .before .before .before .before .before .pre .0) _ _ _ _ _ _ _ (c .before .before .before .before .before .before .before .ride .result) (c .before .before .before .before .before .before .before .before .before .before .before .before .before .before .before .before .before .limits-of .ensures) (events-part _ _ (c .before .before .before .before .before .before .before .before .before .before .before .before .before .before .before .before .event-start .ensures)) (rows-part _ _ _ (c .before .before .before .before .before .before .before .before .before .before .before .before .before .before .supply-of .ensures) (c .before .before .before .before .before .before .before .before .before .before .before .before .before .before .before .row-count .ensures .0) (c .before .before .before .before .before .before .before .before .before .before .before .before .before .before .before .row-count .ensures .1)) (rows-long _ _ _ (c .before .before .before .before .before .before .before .before .before .before .before .before .before .no-cells .ensures) (c .before .before .before .before .before .before .before .before .before .before .before .before .before .before .before .row-count .ensures .0) (c .before .before .before .before .before .before .before .before .before .before .before .before .before .before .before .row-count .ensures .1)) (c .before .before .before .before .before .before .before .before .before .before .before .before .no-answers .ensures) (c .before .before .before .before .before .before .before .ride .ensures) (not-done (c .before .before .before .before .before .before .before .ride .result .answer) (c .before .before .before .before .match .keys2))) (c .before .before .refused .ensures)
 
--- src/lib.rt:76:22
 sub-lines-of : tie.Need-sub-lines-of
 sub-lines-of c = let h = is-readable _ (c .before .before .before .before .before .before .before .before .before .before .before .before .before .before .before .before .before .before .before .pre .0) in omega arith
 
--- src/lib.rt:76:22
 part-lines-of-start : tie.Need-part-lines-of-start
 part-lines-of-start c = let h = is-readable _ (c .before .before .before .before .before .before .before .before .before .before .before .before .before .before .before .before .before .before .before .pre .0) in omega arith
 
--- src/lib.rt:76:22
 part-lines-of-end : tie.Need-part-lines-of-end
 part-lines-of-end c = search needs
 
--- src/lib.rt:76:39
 slice-aggregate-lines-of : tie.Need-slice-aggregate-lines-of
 slice-aggregate-lines-of c = search needs
 
--- src/lib.rt:76:5
 lines-of-requires : tie.Need-lines-of-requires
 lines-of-requires c κs = ride-room _ (c .before .before .before .before .before .before .before .before .before .before .before .before .before .before .before .before .before .before .before .before .before .pre .0) _ _ _ _ _ _ _ (c .before .before .before .before .before .before .before .before .ride .result) (c .before .before .before .before .before .before .before .before .before .before .before .before .before .before .before .before .before .before .limits-of .ensures) (events-part _ _ (c .before .before .before .before .before .before .before .before .before .before .before .before .before .before .before .before .before .event-start .ensures)) (rows-part _ _ _ (c .before .before .before .before .before .before .before .before .before .before .before .before .before .before .before .supply-of .ensures) (c .before .before .before .before .before .before .before .before .before .before .before .before .before .before .before .before .row-count .ensures .0) (c .before .before .before .before .before .before .before .before .before .before .before .before .before .before .before .before .row-count .ensures .1)) (rows-long _ _ _ (c .before .before .before .before .before .before .before .before .before .before .before .before .before .before .no-cells .ensures) (c .before .before .before .before .before .before .before .before .before .before .before .before .before .before .before .before .row-count .ensures .0) (c .before .before .before .before .before .before .before .before .before .before .before .before .before .before .before .before .row-count .ensures .1)) (c .before .before .before .before .before .before .before .before .before .before .before .before .before .no-answers .ensures) (c .before .before .before .before .before .before .before .before .ride .ensures) (ap numberOf (c .before .before .before .before .enum-told .given .1)) _ (let n = c .before .before .before .before .before .before .before .before .before .before .before .before .before .before .before .before .row-count .ensures in omega arith) (c .before .before .before .before .before .before .before .before .before .before .before .before .before .before .before .before .before .before .before .before .before .pre .1)
 
--- src/lib.rt:60:1
 same-length-2 : tie.Need-same-length-2
 same-length-2 c = search needs
 
--- src/lib.rt:60:1
 returns-2 : tie.Need-returns-2
 returns-2 c = same-wrote _ _ _ _ _ _ (ride-text _ (c .before .before .before .before .before .before .before .before .before .before .before .before .before .before .before .before .before .before .before .before .before .before .before .before .pre .0) _ _ _ _ _ _ _ (c .before .before .before .before .before .before .before .before .before .before .before .ride .result) (c .before .before .before .before .before .before .before .before .before .before .before .before .before .before .before .before .before .before .before .before .before .limits-of .ensures) (events-part _ _ (c .before .before .before .before .before .before .before .before .before .before .before .before .before .before .before .before .before .before .before .before .event-start .ensures)) (rows-part _ _ _ (c .before .before .before .before .before .before .before .before .before .before .before .before .before .before .before .before .before .before .supply-of .ensures) (c .before .before .before .before .before .before .before .before .before .before .before .before .before .before .before .before .before .before .before .row-count .ensures .0) (c .before .before .before .before .before .before .before .before .before .before .before .before .before .before .before .before .before .before .before .row-count .ensures .1)) (rows-long _ _ _ (c .before .before .before .before .before .before .before .before .before .before .before .before .before .before .before .before .before .no-cells .ensures) (c .before .before .before .before .before .before .before .before .before .before .before .before .before .before .before .before .before .before .before .row-count .ensures .0) (c .before .before .before .before .before .before .before .before .before .before .before .before .before .before .before .before .before .before .before .row-count .ensures .1)) (c .before .before .before .before .before .before .before .before .before .before .before .before .before .before .before .before .no-answers .ensures) (c .before .before .before .before .before .before .before .before .before .before .before .ride .ensures) (ap numberOf (c .before .before .before .before .before .before .before .enum-told .given .1))) (c .before .before .lines-of .ensures)
 

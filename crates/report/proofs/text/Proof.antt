@@ -5,31 +5,24 @@ use mathlib.Core.Path.{sym, _∙_}
 use Rattle.lines.proofs.Laws.Text.{same-wrote}
 use Rattle.report.proofs.Laws.Trial.{unreadable}
 
--- src/lib.rt:71:8
 readable-requires : tie.Need-readable-requires
 readable-requires c κs = search needs
 
--- src/lib.rt:72:9
 ridden-requires : tie.Need-ridden-requires
 ridden-requires c κs = (sym (c .before .before .readable .ensures) ∙ c .before .if1 .taken, c .before .before .before .before .before .pre)
 
--- src/lib.rt:74:9
 refused-requires : tie.Need-refused-requires
 refused-requires c κs = search needs
 
--- src/lib.rt:67:1
 same-length : tie.Need-same-length
 same-length c = search needs
 
--- src/lib.rt:67:1
 returns : tie.Need-returns
 returns c = search needs
 
--- src/lib.rt:67:1
 same-length-2 : tie.Need-same-length-2
 same-length-2 c = search needs
 
--- src/lib.rt:67:1
 returns-2 : tie.Need-returns-2
 returns-2 c = same-wrote _ _ _ _ _ _ (unreadable _ (sym (c .before .before .before .before .before .readable .ensures) ∙ c .before .before .before .before .if1 .left)) (c .before .before .refused .ensures)
 

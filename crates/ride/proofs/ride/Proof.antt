@@ -6,30 +6,24 @@ use Rattle.ride.proofs.Laws.Rode.{rode-unopened, rode-run}
 use mathlib.Core.Path.{refl, ap}
 use Rattle.limits.specs.Answer.{numberOf}
 
--- src/lib.rt:20:9
 open-requires : tie.Need-open-requires
 open-requires c κs = search needs
 
 enum-told : tie.Need-enum-told
 enum-told c = search needs
 
--- src/lib.rt:23:9
 returns : tie.Need-returns
 returns c = rode-unopened _ _ _ _ _ _ (c .before .«open» .ensures) _ (not-done (c .before .«open» .result .answer) (c .match .keys2)) refl refl
 
--- src/lib.rt:33:9
 run-requires : tie.Need-run-requires
 run-requires c κs = search needs
 
--- src/lib.rt:15:1
 same-length : tie.Need-same-length
 same-length c = search needs
 
--- src/lib.rt:15:1
 same-length-2 : tie.Need-same-length-2
 same-length-2 c = search needs
 
--- src/lib.rt:15:1
 returns-2 : tie.Need-returns-2
 returns-2 c = rode-run _ _ _ _ _ _ (c .before .before .before .before .before .before .before .before .before .before .before .«open» .ensures) _ _ _ (ap numberOf (c .before .before .before .before .before .before .before .before .before .enum-told .given .1)) (c .before .before .before .before .before .run .ensures) _ refl refl
 

@@ -5,51 +5,39 @@ use mathlib.Core.Path.{sym}
 use lib.Seq.{length-take-le}
 use Rattle.report.proofs.Laws.Trial.{count-fits}
 
--- src/main.rt:16:21
 large-buffer-requires : tie.Need-large-buffer-requires
 large-buffer-requires c κs = search needs
 
--- src/main.rt:17:41
 slice-aggregate-read-full : tie.Need-slice-aggregate-read-full
 slice-aggregate-read-full c = search needs
 
--- src/main.rt:17:9
 read-full-requires : tie.Need-read-full-requires
 read-full-requires c κs = search needs
 
--- src/main.rt:18:22
 blank-requires : tie.Need-blank-requires
 blank-requires c κs = search needs
 
--- src/main.rt:19:28
 array-share-prefix-input : tie.Need-array-share-prefix-input
 array-share-prefix-input c = search needs
 
--- src/main.rt:19:28
 slice-aggregate-report : tie.Need-slice-aggregate-report
 slice-aggregate-report c = search needs
 
--- src/main.rt:19:41
 slice-aggregate-report-2 : tie.Need-slice-aggregate-report-2
 slice-aggregate-report-2 c = search needs
 
--- src/main.rt:19:9
 report-requires : tie.Need-report-requires
 report-requires c κs = search needs
 
--- src/main.rt:21:34
 array-share-prefix-output : tie.Need-array-share-prefix-output
 array-share-prefix-output c = count-fits _ _ _ _ (c .before .report .ensures)
 
--- src/main.rt:21:34
 slice-aggregate-write-all : tie.Need-slice-aggregate-write-all
 slice-aggregate-write-all c = sym (length-take-le _ _ (count-fits _ _ _ _ (c .before .before .report .ensures)))
 
--- src/main.rt:21:5
 write-all-requires : tie.Need-write-all-requires
 write-all-requires c κs = search needs
 
--- src/main.rt:15:1
 returns : tie.Need-returns
 returns c = search needs
 

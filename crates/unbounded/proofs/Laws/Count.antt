@@ -9,7 +9,7 @@ use borrow.Author.Tests.{leb-false}
 use lib.ListN.{length, getD}
 use Rattle.limits.specs.Questions.{pick}
 use Rattle.limits.specs.Tables.{Message, put, remove, age}
-use Rattle.limits.proofs.Laws.Choice.{pick-yes, pick-no, pick-cases, test, split}
+use Rattle.limits.proofs.Laws.Choice.{pick-yes, pick-no, pick-cases, split}
 
 -- every element has the property
 unfoldable pub All : {A : Type 0} → (A → Type 0) → List A → Type 0

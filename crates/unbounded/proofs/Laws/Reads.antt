@@ -10,7 +10,7 @@ use Rattle.limits.proofs.Laws.Choice.{test, split, both}
 use Rattle.limits.proofs.Laws.Good.{Good}
 use Rattle.unbounded.specs.Ends.{Ends}
 use Rattle.unbounded.specs.Rules.{dataAt, replyAt}
-use Rattle.unbounded.proofs.Laws.Count.{count, one, one-yes, count-remove, all-at, sum, sum-add, sum-most, pigeonhole}
+use Rattle.unbounded.proofs.Laws.Count.{count, one-yes, count-remove, all-at, sum, sum-add, sum-most, pigeonhole}
 use Rattle.unbounded.proofs.Laws.Invariant.{Inv, inAir, numbered, covers, noData, noReply}
 
 -- What the reading of numbers modulo 2w needs: each message lies within a window.

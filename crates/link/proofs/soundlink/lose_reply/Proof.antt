@@ -1,22 +1,15 @@
 use borrow.Author.Needs.{needs}
 use Rattle.link.proofs.soundlink.lose_reply.Statement.{statement}
 use Rattle.link.proofs.soundlink.lose_reply.Tie as tie
-use Rattle.link.proofs.soundlink.lose_reply.Reads as reads
-use Rattle.link.proofs.soundlink.lose_reply.Lts as lts
-use Rattle.air.proofs.soundreplies.remove.Reads as remove-reads
-use Rattle.link.proofs.soundlink.stays.Reads as stays-reads
 use Rattle.link.proofs.Laws.Parts.{parts}
 use Rattle.link.proofs.Laws.Tables.{reply-lost}
 
--- src/soundlink.rt:362:9
 remove-requires : tie.Need-remove-requires
 remove-requires c κs = let p = parts _ (c .before .before .pre) in (p .limits, p .replies)
 
--- src/soundlink.rt:375:5
 stays-requires : tie.Need-stays-requires
 stays-requires c κs = search needs
 
--- src/soundlink.rt:356:1
 returns : tie.Need-returns
 returns c = let b = c .before .before .before .before .before in λ supply buffer. reply-lost _ (parts _ (b .before .before .before .pre)) _ (b .remove .result) _ supply buffer (b .remove .ensures) (c .stays .ensures)
 

@@ -1,52 +1,38 @@
 use borrow.Author.Needs.{needs}
 use Rattle.link.proofs.soundlink.parts_sound.Statement.{statement}
 use Rattle.link.proofs.soundlink.parts_sound.Tie as tie
-use Rattle.link.proofs.soundlink.parts_sound.Reads as reads
-use Rattle.link.proofs.soundlink.parts_sound.Lts as lts
-use Rattle.air.proofs.sounddata.table_sound.Reads as sounddata-table-sound-reads
-use Rattle.air.proofs.soundreplies.table_sound.Reads as soundreplies-table-sound-reads
-use Rattle.mat.proofs.soundmat.mat_sound.Reads as mat-sound-reads
-use Rattle.pad.proofs.soundpad.pad_sound.Reads as pad-sound-reads
 use mathlib.Core.Path.{sym, _∙_}
 use Rattle.limits.proofs.Laws.Choice.{and-goes-on, and-stops}
 
--- src/soundlink.rt:55:5
 mat-sound-requires : tie.Need-mat-sound-requires
 mat-sound-requires c κs = search needs
 
--- src/soundlink.rt:56:13
 pad-sound-requires : tie.Need-pad-sound-requires
 pad-sound-requires c κs = search needs
 
--- src/soundlink.rt:56:43
 table-sound-requires : tie.Need-table-sound-requires
 table-sound-requires c κs = search needs
 
--- src/soundlink.rt:56:75
 table-sound-requires-2 : tie.Need-table-sound-requires-2
 table-sound-requires-2 c κs = search needs
 
--- src/soundlink.rt:47:1
 returns : tie.Need-returns
 returns c = c .table-sound2 .ensures
     ∙ and-goes-on _ _ (sym (c .before .before .table-sound .ensures) ∙ c .before .if3 .taken)
     ∙ and-goes-on _ _ (sym (c .before .before .before .before .pad-sound .ensures) ∙ c .before .before .before .if2 .taken)
     ∙ and-goes-on _ _ (sym (c .before .before .before .before .before .before .mat-sound .ensures) ∙ c .before .before .before .before .before .if1 .taken)
 
--- src/soundlink.rt:47:1
 returns-2 : tie.Need-returns-2
 returns-2 c = c .before .table-sound .ensures
     ∙ and-stops _ _ (sym (c .before .table-sound .ensures) ∙ c .if3 .left)
     ∙ and-goes-on _ _ (sym (c .before .before .before .pad-sound .ensures) ∙ c .before .before .if2 .taken)
     ∙ and-goes-on _ _ (sym (c .before .before .before .before .before .mat-sound .ensures) ∙ c .before .before .before .before .if1 .taken)
 
--- src/soundlink.rt:47:1
 returns-3 : tie.Need-returns-3
 returns-3 c = c .before .pad-sound .ensures
     ∙ and-stops _ _ (sym (c .before .pad-sound .ensures) ∙ c .if2 .left)
     ∙ and-goes-on _ _ (sym (c .before .before .before .mat-sound .ensures) ∙ c .before .before .if1 .taken)
 
--- src/soundlink.rt:47:1
 returns-4 : tie.Need-returns-4
 returns-4 c = c .before .mat-sound .ensures ∙ and-stops _ _ (sym (c .before .mat-sound .ensures) ∙ c .if1 .left)
 

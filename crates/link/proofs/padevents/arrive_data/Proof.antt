@@ -1,13 +1,6 @@
 use borrow.Author.Needs.{needs}
-use Rattle.link.proofs.soundlink.arrive_data.Statement.{statement}
-use Rattle.link.proofs.soundlink.arrive_data.Tie as tie
-use Rattle.link.proofs.soundlink.arrive_data.Reads as reads
-use Rattle.link.proofs.soundlink.arrive_data.Lts as lts
-use Rattle.air.proofs.sounddata.read.Reads as read-reads
-use Rattle.link.proofs.soundlink.stays.Reads as stays-reads
-use Rattle.link.proofs.soundlink.take_new.Reads as take-new-reads
-use Rattle.link.proofs.soundlink.take_old.Reads as take-old-reads
-use Rattle.pad.proofs.soundpad.arrive.Reads as arrive-reads
+use Rattle.link.proofs.padevents.arrive_data.Statement.{statement}
+use Rattle.link.proofs.padevents.arrive_data.Tie as tie
 use mathlib.Core.Path.{_≡_, ap}
 use mathlib.Core.Bool.{not, _||_}
 use mathlib.Core.List.{[], _∷_}
@@ -28,48 +21,40 @@ use Rattle.link.proofs.Laws.Parts.{parts}
 use Rattle.link.proofs.Laws.Stays.{stays-refused}
 use Rattle.link.proofs.Laws.Arriving.{place-there, read-sound, old-sound, old-arrives, new-arrives}
 
--- src/soundlink.rt:214:9
 read-requires : tie.Need-read-requires
 read-requires c κs = let p = parts _ (c .before .before .pre) in (p .limits, p .datas)
 
 enum-told : tie.Need-enum-told
 enum-told c = search needs
 
--- src/soundlink.rt:217:9
 stays-requires : tie.Need-stays-requires
 stays-requires c κs = search needs
 
--- src/soundlink.rt:217:9
 returns : tie.Need-returns
 unfolding linkState
 returns c = let t = c .before .before in let s = t .before .before .before in let k = s .args .k in
     let z = not-done (t .read .result .answer) (c .before .match .keys2) in
     λ supply buffer. stays-refused _ _ _ _ buffer _ (c .stays .ensures) (more-stays (placeQuestions (s .args .p) (dataMessages (k .datas))) _ (t .read .ensures .number) (ask 18 (not (arrival (k .limits) (padState (k .limits .window) (k .pad)) (getD (dataMessages (k .datas)) (s .args .p) noData .body) .old) || ltb (length (replyMessages (k .replies))) capacity) ∷ []) z) z
 
--- src/soundlink.rt:222:9
 arrive-requires : tie.Need-arrive-requires
 arrive-requires c κs = let t = c .before .before .before .before .before in let s = t .before .before .before in let p = parts _ (s .pre) in
     (p .limits, p .pad, read-sound (s .args .k) p (s .args .p) (t .read .result) (t .read .ensures) (ap numberOf (c .before .before .before .enum-told .given .1)))
 
--- src/soundlink.rt:224:9
 take-old-requires : tie.Need-take-old-requires
 take-old-requires c κs = let a = c .before in let t = a .before .before .before .before .before .before in let s = t .before .before .before in let p = parts _ (s .pre) in
     let e : numberOf (t .read .result .answer) ≡ 0 = ap numberOf (a .before .before .before .before .enum-told .given .1) in
     (s .pre, place-there (s .args .k) p (s .args .p) (t .read .result) (t .read .ensures) e, old-sound (s .args .k) p (s .args .p) (t .read .result) (t .read .ensures) e (a .arrive .result) (a .arrive .ensures) (c .if1 .taken))
 
--- src/soundlink.rt:227:9
 take-new-requires : tie.Need-take-new-requires
 take-new-requires c κs = let a = c .before .before in let t = a .before .before .before .before .before .before in let s = t .before .before .before in let p = parts _ (s .pre) in
     let e : numberOf (t .read .result .answer) ≡ 0 = ap numberOf (a .before .before .before .before .enum-told .given .1) in
     (s .pre, place-there (s .args .k) p (s .args .p) (t .read .result) (t .read .ensures) e, a .arrive .ensures .keeps .stays (p .pad))
 
--- src/soundlink.rt:208:1
 returns-2 : tie.Need-returns-2
 returns-2 c = let a = c .before .before in let t = a .before .before .before .before .before .before in let s = t .before .before .before in
     let e : numberOf (t .read .result .answer) ≡ 0 = ap numberOf (a .before .before .before .before .enum-told .given .1) in
     λ supply buffer. old-arrives (s .args .k) (parts _ (s .pre)) (s .args .p) (t .read .result) (t .read .ensures) e (a .arrive .result) (a .arrive .ensures) (c .before .if1 .taken) _ supply buffer (c .take-old .ensures buffer)
 
--- src/soundlink.rt:208:1
 returns-3 : tie.Need-returns-3
 returns-3 c = let a = c .before .before .before in let t = a .before .before .before .before .before .before in let s = t .before .before .before in
     let e : numberOf (t .read .result .answer) ≡ 0 = ap numberOf (a .before .before .before .before .enum-told .given .1) in

@@ -1,17 +1,12 @@
 use borrow.Author.Needs.{needs}
-use Rattle.link.proofs.soundlink.resend.Statement.{statement}
-use Rattle.link.proofs.soundlink.resend.Tie as tie
-use Rattle.link.proofs.soundlink.resend.Reads as reads
-use Rattle.link.proofs.soundlink.resend.Lts as lts
-use Rattle.link.proofs.soundlink.sent_out.Reads as sent-out-reads
-use Rattle.link.proofs.soundlink.stays.Reads as stays-reads
-use Rattle.mat.proofs.soundmat.resend.Reads as resend-reads
+use Rattle.link.proofs.matevents.resend.Statement.{statement}
+use Rattle.link.proofs.matevents.resend.Tie as tie
 use mathlib.Core.Path.{_≡_, refl, ap}
 use Rattle.limits.specs.Answer.{numberOf}
 use Rattle.limits.specs.Lists.{all}
 use Rattle.limits.proofs.Laws.Promise.{not-done, none-no}
 use Rattle.limits.proofs.Laws.Questions.{more-stays}
-use Rattle.mat.specs.Rules.{resendQuestions, resending}
+use Rattle.mat.specs.Rules.{resendQuestions}
 use Rattle.mat.specs.View.{matState}
 use Rattle.mat.proofs.Laws.Messages.{resending-sound}
 use Rattle.air.specs.Rules.{roomQuestions}
@@ -21,30 +16,25 @@ use Rattle.link.proofs.Laws.Parts.{parts}
 use Rattle.link.proofs.Laws.Stays.{stays-refused}
 use Rattle.link.proofs.Laws.Sending.{sent-message, sends}
 
--- src/soundlink.rt:141:9
 resend-requires : tie.Need-resend-requires
 resend-requires c κs = let p = parts _ (c .before .before .pre) in (p .limits, p .mat)
 
 enum-told : tie.Need-enum-told
 enum-told c = search needs
 
--- src/soundlink.rt:144:9
 stays-requires : tie.Need-stays-requires
 stays-requires c κs = search needs
 
--- src/soundlink.rt:144:9
 returns : tie.Need-returns
 unfolding linkState
 returns c = let s = c .before .before .before .before .before in let k = s .args .k in
     λ supply buffer. stays-refused _ _ _ _ buffer _ (c .stays .ensures) (more-stays (resendQuestions (k .limits) (matState (k .limits .window) (k .mat)) (s .args .n)) _ (c .before .before .resend .ensures .answers .number) (roomQuestions 13 (dataMessages (k .datas))) (not-done (c .before .before .resend .result .answer) (c .before .match .keys2))) (not-done (c .before .before .resend .result .answer) (c .before .match .keys2))
 
--- src/soundlink.rt:148:5
 sent-out-requires : tie.Need-sent-out-requires
 sent-out-requires c κs = let t = c .before .before .before .before in let s = t .before .before .before in let p = parts _ (s .pre) in
     let e : numberOf (t .resend .result .answer) ≡ 0 = ap numberOf (c .before .before .enum-told .given .1) in
     (s .pre, t .resend .ensures .keeps .stays (p .mat), sent-message (s .args .k) _ _ (t .resend .result) (t .resend .ensures) e (resending-sound _ _ (p .limits) (p .mat) _ (none-no _ _ _ _ _ (t .resend .ensures .answers) e)))
 
--- src/soundlink.rt:135:1
 returns-2 : tie.Need-returns-2
 unfolding linkState all
 returns-2 c = let t = c .before .before .before .before .before in let s = t .before .before .before in

@@ -1,30 +1,22 @@
 use borrow.Author.Needs.{needs}
-use Rattle.link.proofs.soundlink.record_run.Statement.{statement}
-use Rattle.link.proofs.soundlink.record_run.Tie as tie
-use Rattle.link.proofs.soundlink.record_run.Reads as reads
-use Rattle.link.proofs.soundlink.record_run.Lts as lts
-use Rattle.air.proofs.soundreplies.put.Reads as put-reads
-use Rattle.pad.proofs.soundpad.reply.Reads as reply-reads
+use Rattle.link.proofs.padevents.record_run.Statement.{statement}
+use Rattle.link.proofs.padevents.record_run.Tie as tie
 use Rattle.link.specs.View.{linkState}
 use Rattle.link.proofs.Laws.Parts.{parts}
 use Rattle.link.proofs.Laws.Tables.{full-reply}
 use Rattle.link.proofs.Laws.Replying.{run-sound, replies}
 
--- src/soundlink.rt:238:9
 reply-requires : tie.Need-reply-requires
 reply-requires c κs = let p = parts _ (c .before .before .before .before .pre .0) in (p .limits, p .pad)
 
--- src/soundlink.rt:245:9
 put-requires : tie.Need-put-requires
 unfolding linkState
 put-requires c κs = let t = c .before .before .before in let s = t .before .before .before .before .before in let p = parts _ (s .pre .0) in
     (p .limits, p .replies, full-reply _ (record { first = t .reply .result .first; last = t .reply .result .last }) (p .limits) (run-sound (s .args .k) p _ _ (s .pre .1) (t .reply .result) (t .reply .ensures)))
 
--- src/soundlink.rt:232:1
 same-length : tie.Need-same-length
 same-length c = search needs
 
--- src/soundlink.rt:232:1
 returns : tie.Need-returns
 unfolding linkState
 returns c = let q = c .before .before .before .before in let t = q .before .before .before .before in let s = t .before .before .before .before .before in

@@ -1,55 +1,40 @@
 use borrow.Author.Needs.{needs}
-use Rattle.link.proofs.soundlink.reply.Statement.{statement}
-use Rattle.link.proofs.soundlink.reply.Tie as tie
-use Rattle.link.proofs.soundlink.reply.Reads as reads
-use Rattle.link.proofs.soundlink.reply.Lts as lts
-use Rattle.air.proofs.soundreplies.room.Reads as room-reads
-use Rattle.link.proofs.soundlink.record_run.Reads as record-run-reads
-use Rattle.link.proofs.soundlink.stays.Reads as stays-reads
-use Rattle.pad.proofs.soundpad.run_length.Reads as run-length-reads
+use Rattle.link.proofs.padevents.reply.Statement.{statement}
+use Rattle.link.proofs.padevents.reply.Tie as tie
 use mathlib.Core.Path.{_≡_, sym, refl, _∙_, ap}
 use native.Mathlib.Omega.{arith}
 use Rattle.limits.specs.Answer.{numberOf}
-use Rattle.limits.proofs.Laws.Good.{good}
 use Rattle.limits.proofs.Laws.Promise.{not-done}
-use Rattle.pad.proofs.Laws.Messages.{run-most}
 use Rattle.link.specs.View.{linkState}
 use Rattle.link.proofs.Laws.Parts.{parts}
 use Rattle.link.proofs.Laws.Stays.{stays-refused}
-use Rattle.link.proofs.Laws.Replying.{nothing-ready, record-full, table-full, all-pass, count-is, some-ready}
+use Rattle.link.proofs.Laws.Replying.{nothing-ready, record-full, table-full, all-pass, count-is, some-ready, count-fits}
 use Rattle.pad.specs.View.{padState}
 use Rattle.air.specs.Replies.{replyMessages}
-use Rattle.link.proofs.Laws.Replying.{count-fits}
 
--- src/soundlink.rt:275:9
 run-length-requires : tie.Need-run-length-requires
 run-length-requires c κs = let p = parts _ (c .before .before .before .before .pre) in (p .limits, p .pad)
 
 enum-told : tie.Need-enum-told
 enum-told c = search needs
 
--- src/soundlink.rt:278:9
 stays-requires : tie.Need-stays-requires
 stays-requires c κs = search needs
 
--- src/soundlink.rt:278:9
 returns : tie.Need-returns
 unfolding linkState
 returns c = let t = c .before .before in let k = t .before .before .before .before .before .args .k in
     let z = not-done (t .run-length .result .answer) (c .before .match .keys2) in
     stays-refused _ _ _ _ _ _ (c .stays .ensures) (nothing-ready (padState (k .limits .window) (k .pad)) _ (replyMessages (k .replies)) _ (t .run-length .ensures .number) z) z
 
--- src/soundlink.rt:280:8
 mul-if1 : tie.Need-mul-if1
 mul-if1 c = let t = c .before .before .before in let s = t .before .before .before .before .before in let k = s .args .k in
     let e = count-is (padState (k .limits .window) (k .pad)) (t .run-length .result) (t .run-length .ensures) (ap numberOf (c .before .enum-told .given .1)) in
     let m = count-fits k (parts _ (s .pre)) (t .run-length .result) e in omega (arith, m)
 
--- src/soundlink.rt:281:12
 room-requires : tie.Need-room-requires
 room-requires c κs = search needs
 
--- src/soundlink.rt:282:13
 record-run-requires : tie.Need-record-run-requires
 unfolding linkState
 record-run-requires c κs = let r = c .before .before in let t = r .before .before .before .before .before in let s = t .before .before .before .before .before in let k = s .args .k in
@@ -57,23 +42,18 @@ record-run-requires c κs = let r = c .before .before in let t = r .before .befo
     let pad = padState (k .limits .window) (k .pad) in
     (s .pre, all-pass pad _ (replyMessages (k .replies)) (some-ready pad (t .run-length .result) (t .run-length .ensures) n) _ (count-is pad (t .run-length .result) (t .run-length .ensures) n) (r .before .if1 .taken) (sym (r .room .ensures) ∙ c .before .if2 .taken))
 
--- src/soundlink.rt:284:13
 stays-requires-2 : tie.Need-stays-requires-2
 stays-requires-2 c κs = search needs
 
--- src/soundlink.rt:287:9
 stays-requires-3 : tie.Need-stays-requires-3
 stays-requires-3 c κs = search needs
 
--- src/soundlink.rt:268:1
 same-length : tie.Need-same-length
 same-length c = search needs
 
--- src/soundlink.rt:268:1
 returns-2 : tie.Need-returns-2
 returns-2 c = search needs
 
--- src/soundlink.rt:268:1
 returns-3 : tie.Need-returns-3
 unfolding linkState
 returns-3 c = let r = c .before .before in let t = r .before .before .before .before .before in let k = t .before .before .before .before .before .args .k in
@@ -81,7 +61,6 @@ returns-3 c = let r = c .before .before in let t = r .before .before .before .be
     let pad = padState (k .limits .window) (k .pad) in
     stays-refused _ _ _ _ _ _ (c .stays2 .ensures) (table-full pad _ (replyMessages (k .replies)) (some-ready pad (t .run-length .result) (t .run-length .ensures) n) _ (count-is pad (t .run-length .result) (t .run-length .ensures) n) (r .before .if1 .taken) (sym (r .room .ensures) ∙ c .before .if2 .left)) refl
 
--- src/soundlink.rt:268:1
 returns-4 : tie.Need-returns-4
 unfolding linkState
 returns-4 c = let t = c .before .before .before .before .before in let k = t .before .before .before .before .before .args .k in
