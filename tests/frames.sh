@@ -3,5 +3,5 @@
 set -euo pipefail
 mkdir -p target
 rt check framecheck >target/framecheck.log 2>&1 || { tail -n 20 target/framecheck.log; exit 1; }
-rustc --edition 2021 -O -o target/frames tests/frames.rs
-target/frames target/bin/framecheck
+cargo build --quiet --release --offline --manifest-path second/Cargo.toml
+second/target/release/frames target/bin/framecheck

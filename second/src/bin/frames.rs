@@ -1,82 +1,36 @@
-//! A second implementation of the frame reader and writer, written from the paper, against the proved one.
+//! The proved frame reader and writer against the ones here.
 //!
 //! framecheck reads frames from standard input, each behind a byte with its length, and prints what it makes of each. Compared
 //! are all lengths 0 to 40 with every first byte, each question's first failing byte, and seeded random and damaged frames.
 
+use second::frames::{read, write, Frame};
+use second::limits::number;
 use std::io::Write;
 use std::process::{exit, Command, Stdio};
 
-type Frame = Vec<u8>;
-
-/// Questions 24, 25 and 26.
-fn values_answer(w: u32, numbers: &[u32], life: u32) -> u32 {
-    if !(1..=32).contains(&w) {
-        24
-    } else if numbers.iter().any(|n| *n >= 2 * w) {
-        25
-    } else if !(1..=250).contains(&life) {
-        26
-    } else {
-        0
-    }
-}
-
-/// The number, and the kind with the frame's values; a refused frame has kind 0 alone.
-fn read(b: &[u8]) -> (u32, Vec<u32>) {
-    let v: Vec<u32> = b.iter().map(|x| u32::from(*x)).collect();
-    let refused = |n| (n, vec![0]);
-    if v.is_empty() || (v[0] != 1 && v[0] != 2) {
-        return refused(22);
-    }
-    if v.len() != if v[0] == 1 { 36 } else { 5 } {
-        return refused(23);
-    }
-    let (life, w) = (v[1], v[2]);
-    if v[0] == 1 {
-        let cells: Vec<u32> = (0..16).map(|k| v[4 + 2 * k] + 256 * v[5 + 2 * k]).collect();
-        let n = values_answer(w, &[v[3]], life);
-        if n != 0 {
-            return refused(n);
+/// What framecheck prints for a frame: the number, the kind (0 where refused) with the values, and for an accepted frame the
+/// number, the length and the whole buffer of zeros after writing these values.
+fn expected(bytes: &[u8]) -> Vec<u32> {
+    let frame = read(bytes);
+    let mut line = vec![u32::from(number(&frame))];
+    let Ok(frame) = frame else {
+        line.push(0);
+        return line;
+    };
+    let mut buffer = match &frame {
+        Frame::Data { life, window, number, row } => {
+            line.extend([1, *life, *window, *number].map(u32::from));
+            line.extend(row.map(u32::from));
+            vec![0; 40]
         }
-        if cells.iter().any(|c| *c > 4095) {
-            return refused(12);
+        Frame::Reply { life, window, first, last } => {
+            line.extend([2, *life, *window, *first, *last].map(u32::from));
+            vec![0; 8]
         }
-        let mut out = vec![1, life, w, v[3]];
-        out.extend(cells);
-        (0, out)
-    } else {
-        let n = values_answer(w, &[v[3], v[4]], life);
-        if n != 0 {
-            return refused(n);
-        }
-        if (v[4] + 2 * w - v[3]) % (2 * w) + 1 > w {
-            return refused(27);
-        }
-        (0, v)
-    }
-}
-
-/// The number, the count and the whole buffer of `size` zeros after writing the values.
-fn write(values: &[u32], size: usize) -> Vec<u32> {
-    let mut bytes: Vec<u32> = values[..if values[0] == 1 { 4 } else { 5 }].to_vec();
-    if values[0] == 1 {
-        for cell in &values[4..] {
-            bytes.extend([cell % 256, cell / 256]);
-        }
-    }
-    let mut out = vec![0, bytes.len() as u32];
-    bytes.resize(size, 0);
-    out.extend(bytes);
-    out
-}
-
-fn expected(b: &[u8]) -> Vec<u32> {
-    let (n, values) = read(b);
-    let mut line = vec![n];
-    line.extend(&values);
-    if n == 0 {
-        line.extend(write(&values, if values[0] == 1 { 40 } else { 8 }));
-    }
+    };
+    let written = write(&frame, &mut buffer);
+    line.extend([u32::from(number(&written)), written.unwrap_or(0) as u32]);
+    line.extend(buffer.iter().map(|byte| u32::from(*byte)));
     line
 }
 
@@ -90,7 +44,7 @@ impl Random {
     }
 }
 
-fn good(r: &mut Random) -> Frame {
+fn good(r: &mut Random) -> Vec<u8> {
     let w = 1 + r.below(32);
     let first = r.below(2 * w);
     let life = 1 + r.below(250);
@@ -107,7 +61,7 @@ fn good(r: &mut Random) -> Frame {
 }
 
 /// All lengths with every first byte; every w with numbers and lives at their edges; every span; every cell at its edge.
-fn edges() -> Vec<Frame> {
+fn edges() -> Vec<Vec<u8>> {
     let mut all = vec![vec![]];
     for length in 1..=40usize {
         for first in 0..=255u8 {
@@ -148,7 +102,7 @@ fn edges() -> Vec<Frame> {
 }
 
 /// Good frames, each also with one byte damaged and with one byte more or less.
-fn damaged(r: &mut Random) -> Vec<Frame> {
+fn damaged(r: &mut Random) -> Vec<Vec<u8>> {
     let mut all = vec![];
     for _ in 0..5000 {
         let b = good(r);
@@ -167,7 +121,7 @@ fn damaged(r: &mut Random) -> Vec<Frame> {
 }
 
 /// What the program prints for these frames, a line each.
-fn printed(program: &str, frames: &[Frame]) -> Vec<Vec<u32>> {
+fn printed(program: &str, frames: &[Vec<u8>]) -> Vec<Vec<u32>> {
     let input: Vec<u8> = frames.iter().flat_map(|b| std::iter::once(b.len() as u8).chain(b.iter().copied())).collect();
     let mut child = Command::new(program).stdin(Stdio::piped()).stdout(Stdio::piped()).spawn().expect("framecheck starts");
     let mut pipe = child.stdin.take().expect("a pipe");

@@ -1,0 +1,17 @@
+//! A second implementation of the mat link, written from the paper (document 01) alone.
+//!
+//! It is there to be compared: with the unbounded ends here, and with the proved implementation on the same input. The protocol
+//! is the block acknowledgment protocol of source document 001, section 4.2, in whole ticks. "Question n" is the paper's
+//! question with the number n; "row" and "reply" are its words for the data message's content and the acknowledgment.
+
+#![warn(missing_docs)]
+
+pub mod built;
+pub mod compare;
+pub mod frames;
+pub mod limits;
+pub mod trial;
+pub mod unbounded;
+
+#[cfg(test)]
+mod tests;
