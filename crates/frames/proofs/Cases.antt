@@ -1,4 +1,4 @@
--- Case J, and a frame for each answer of a reader, computed of the rules. Bytes are decimal.
+-- A data frame that is read, and refused frames for every answer of a reader but 27, computed of the rules. Bytes are decimal.
 use Prim.Native.Nat.{ℕ}
 use mathlib.Core.Path.{_≡_, refl}
 use mathlib.Core.List.{List, [], _∷_, _++_}
@@ -7,24 +7,9 @@ use Rattle.limits.specs.Questions.{pick, firstNo}
 use Rattle.limits.specs.Lists.{tab, all}
 use Rattle.limits.specs.Cells.{legalCell}
 use Rattle.limits.specs.Limits.{windowFits}
-use Rattle.limits.specs.Ring.{distance}
-use Rattle.limits.specs.Tables.{span}
-use Rattle.frames.specs.Layout.{dataRead, replyRead}
+use Rattle.frames.specs.Layout.{dataRead}
 use Rattle.frames.specs.Rules.{readQuestions}
 use Rattle.frames.proofs.Theorems.{ReadAs}
-
--- J: a reply whose span of 2 goes over the end of the ring, and one whose span is too long.
-pub case-J : ReadAs (2 ∷ 1 ∷ 2 ∷ 3 ∷ 0 ∷ []) (replyRead (record { life = 1; window = 2; first = 3; last = 0 }))
-unfolding pick all windowFits distance
-case-J = record { accepted = refl; means = refl }
-
-pub case-J-span : span 2 (record { first = 3; last = 0 }) ≡ 2
-unfolding distance
-case-J-span = refl
-
-pub case-J-refused : firstNo (readQuestions (2 ∷ 1 ∷ 2 ∷ 3 ∷ 1 ∷ [])) ≡ 27
-unfolding pick all windowFits distance
-case-J-refused = refl
 
 -- a data frame: its 16 cells are the two in front and fourteen more
 abbrev dataFrame : ℕ → ℕ → ℕ → List ℕ → List ℕ
