@@ -1,6 +1,7 @@
 #!/usr/bin/env bash
 # The trial on the paper's example and on inputs that are refused.
 set -euo pipefail
+shopt -s lastpipe # so that `failed` is set in this shell
 mkdir -p target
 rt check trial >target/trial.log 2>&1 || { tail -n 20 target/trial.log; exit 1; }
 failed=0
