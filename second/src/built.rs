@@ -212,7 +212,7 @@ impl<M: Message> Table<M> {
         Ok(Counts::default())
     }
 
-    /// Lives fall; a message whose life was at most d is dropped.
+    /// Lives fall, and messages with none left go.
     fn tick(&mut self, d: u16) {
         let mut kept = 0;
         for place in 0..self.count {

@@ -163,7 +163,7 @@ pub fn state_difference(link: &Link, ends: &Ends, total: Counts) -> Option<Strin
         })
 }
 
-/// The whole record: the supply's first rows, as many as wanted says, and behind them the buffer as it was at first.
+/// The whole record: rows 0 to wanted - 1 of the supply, then the buffer's first contents.
 pub fn record_difference(record: &[u16], at_first: &[u16], supply: &[Row], ends: &Ends) -> Option<String> {
     let recorded = &supply[..ends.wanted];
     let (written, rest) = record.split_at(ends.wanted * CELLS);

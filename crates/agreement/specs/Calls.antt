@@ -1,5 +1,5 @@
--- A list of calls on one link: runs and calls for one event. Each gets the link that the last one returned, and supply and
--- record from behind the rows sent and recorded so far to their ends.
+-- A list of calls on one link, runs and single events mixed. A call works on the link that came out of the call before it.
+-- What is lent to it is the unsent rest of the supply and the unwritten rest of the record.
 use Prim.Native.Nat.{ℕ, _*_}
 use mathlib.Core.List.{List, [], _∷_, _++_, map}
 use lib.Dec.{eqb}

@@ -1,4 +1,4 @@
--- The trial's input: w, data life, reply life, reply wait, resend wait (two bytes, low first), row count, the rows, the events.
+-- How the trial's input is laid out: six bytes of limits, the number of rows, the cells of the rows, then event bytes.
 use Prim.Native.Nat.{ℕ, _+_, _*_}
 use mathlib.Core.Bool.{Bool, _&&_}
 use mathlib.Core.List.{List}

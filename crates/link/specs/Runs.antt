@@ -1,4 +1,4 @@
--- A list of events, one after the other. Each gets supply and record from behind the rows sent and recorded so far.
+-- A list of events, one after the other. Each works on the unsent rest of the supply and the unwritten rest of the record.
 use Prim.Native.Nat.{ℕ, _*_}
 use mathlib.Core.List.{List, [], _∷_, _++_}
 use lib.ListN.{take, drop}

@@ -168,7 +168,7 @@ fn sum(a: Counts, b: Counts) -> Counts
     }
 }
 
-// Every event in order. Each gets supply and record from behind the rows sent and recorded so far.
+// Every event in order, each on the unsent rest of the supply and the unwritten rest of the record.
 pub fn run(
     k: Link,
     events: &[u8],

@@ -23,7 +23,7 @@ noAnswers = replicate 20480 0
 abbrev pub trialQuestions : List ℕ → List Question
 trialQuestions input = ask 29 (readable input) ∷ rideQuestions (limitsOf input) (eventBytes input) (supplyOf input) noAnswers
 
--- The record is as long as the supply.
+-- Supply and record have the same length.
 abbrev pub trialEnds : List ℕ → Ends
 trialEnds input = endsOf (limitsOf input) (eventBytes input) (supplyOf input) (length (supplyOf input))
 

@@ -1,5 +1,5 @@
--- What it means that one event agrees: its answer, and what it does. The built ends get supply and record from behind the
--- rows sent and recorded so far.
+-- What it means that one event agrees: its answer, and what it does. The built ends are lent what is left of supply and
+-- record.
 use Prim.Native.Nat.{ℕ, _+_, _*_, _≤_}
 use mathlib.Core.Path.{_≡_}
 use mathlib.Core.List.{List, _++_}

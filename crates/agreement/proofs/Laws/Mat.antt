@@ -1,4 +1,4 @@
--- The mat's window over numbers without end: the rows from oldest to next and the timers of the w rows before next.
+-- The mat's window over numbers without end: rows from oldest to next, and the resend timers of the last w numbers.
 use Prim.Native.Nat.{ℕ, _+_, _-_, _*_, _%_, _≤_, _<_}
 use mathlib.Core.Path.{_≡_, refl, sym, _∙_, ap, ap₂}
 use mathlib.Core.Bool.{Bool, false, _&&_, _||_}
