@@ -1,0 +1,39 @@
+use native.Mathlib.Omega.{arith}
+use borrow.Author.Needs.{needs}
+use mathlib.Core.Path.{_≡_, refl}
+use borrow.Author.Needs.{needs}
+use Rattle.exports.proofs.put_data.Statement.{statement}
+use Rattle.exports.proofs.put_data.Tie as tie
+use lib.ListN.{length}
+use mathlib.Core.List.{[], _∷_}
+use Rattle.exports.proofs.Laws.Placed.{placed-then}
+
+-- src/lib.rt:233:5
+put-head-requires : tie.Need-put-head-requires
+put-head-requires c κs = search needs
+
+-- src/lib.rt:234:35
+slice-aggregate-put-numbers : tie.Need-slice-aggregate-put-numbers
+slice-aggregate-put-numbers c = search needs
+
+-- src/lib.rt:234:5
+put-numbers-requires : tie.Need-put-numbers-requires
+put-numbers-requires c κs = let h : length (c .before .before .before .before .before .before .before .before .args .f .row) ≡ 16 = search needs in let k = c .before .before .before .before .put-head .kept .0 in let p = c .before .before .before .before .before .before .before .before .pre in omega (arith, h, k, p)
+
+-- src/lib.rt:228:1
+same-length : tie.Need-same-length
+same-length c = search needs
+
+-- src/lib.rt:228:1
+returns : tie.Need-returns
+returns c = let p = c .before .before .before .before .before .before .before .before .before .before .before .pre in placed-then 0 5 (1 ∷ c .before .before .before .before .before .before .before .before .before .before .before .args .f .life ∷ c .before .before .before .before .before .before .before .before .before .before .before .args .f .window ∷ c .before .before .before .before .before .before .before .before .before .before .before .args .f .number ∷ 0 ∷ []) (c .before .before .before .before .before .before .before .before .before .before .before .args .f .row) (c .before .before .before .before .before .before .before .before .before .before .before .args .fields .now) _ _ (c .before .before .before .before .before .before .before .put-head .ensures) (c .before .before .put-numbers .ensures .0) refl (omega (arith, p))
+
+pub put-data-spec : {M : Type 1} → statement M
+put-data-spec =
+    tie.close
+    (tie.spec
+    put-head-requires
+    slice-aggregate-put-numbers
+    put-numbers-requires
+    same-length
+    returns)
