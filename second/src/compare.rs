@@ -36,6 +36,11 @@ pub struct Case {
     pub calls: Vec<Call>,
 }
 
+/// A call for each event.
+pub fn ones(events: &[(u8, u8)]) -> Vec<Call> {
+    events.iter().map(|&(kind, argument)| Call::One { kind, argument }).collect()
+}
+
 /// How the built ends take one event, so that a test can put a wrong one in its place.
 pub type Step = fn(&mut Link, u8, u8, &[u16], &mut [u16]) -> Result<Counts, Refusal>;
 
@@ -119,7 +124,8 @@ pub fn compare_with(case: &Case, step: Step) -> Option<String> {
     None
 }
 
-fn different<T: PartialEq + std::fmt::Debug>(built: T, expected: T, what: impl Fn() -> String) -> Option<String> {
+/// A difference, in words, where there is one.
+pub fn different<T: PartialEq + std::fmt::Debug>(built: T, expected: T, what: impl Fn() -> String) -> Option<String> {
     (built != expected).then(|| format!("{}: built {built:?}, expected {expected:?}", what()))
 }
 

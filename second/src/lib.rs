@@ -7,10 +7,24 @@
 #![warn(missing_docs)]
 
 pub mod built;
+pub mod checks;
 pub mod compare;
+pub mod differ;
+pub mod draw;
+pub mod frame_checks;
+pub mod frame_lists;
 pub mod frames;
+pub mod image;
+pub mod library;
 pub mod limits;
+#[cfg(feature = "proved")]
+pub mod proved;
+pub mod random;
+pub mod rides;
+pub mod short;
+pub mod shrink;
 pub mod trial;
+pub mod trials;
 pub mod unbounded;
 
 #[cfg(test)]

@@ -3,8 +3,10 @@
 //! framecheck reads frames from standard input, each behind a byte with its length, and prints what it makes of each. Compared
 //! are all lengths 0 to 40 with every first byte, each question's first failing byte, and seeded random and damaged frames.
 
+use second::frame_lists::{damaged, edges};
 use second::frames::{read, write, Frame};
 use second::limits::number;
+use second::random::Random;
 use std::io::Write;
 use std::process::{exit, Command, Stdio};
 
@@ -34,92 +36,6 @@ fn expected(bytes: &[u8]) -> Vec<u32> {
     line
 }
 
-/// A small generator of numbers below `n`, the same at every run.
-struct Random(u64);
-
-impl Random {
-    fn below(&mut self, n: u64) -> u64 {
-        self.0 = self.0.wrapping_mul(6364136223846793005).wrapping_add(1442695040888963407);
-        (self.0 >> 33) % n
-    }
-}
-
-fn good(r: &mut Random) -> Vec<u8> {
-    let w = 1 + r.below(32);
-    let first = r.below(2 * w);
-    let life = 1 + r.below(250);
-    if r.below(2) == 0 {
-        let last = (first + r.below(w)) % (2 * w);
-        return vec![2, life as u8, w as u8, first as u8, last as u8];
-    }
-    let mut b = vec![1, life as u8, w as u8, first as u8];
-    for _ in 0..16 {
-        let cell = r.below(4096);
-        b.extend([(cell % 256) as u8, (cell / 256) as u8]);
-    }
-    b
-}
-
-/// All lengths with every first byte; every w with numbers and lives at their edges; every span; every cell at its edge.
-fn edges() -> Vec<Vec<u8>> {
-    let mut all = vec![vec![]];
-    for length in 1..=40usize {
-        for first in 0..=255u8 {
-            let mut b = vec![1u8; length];
-            b[0] = first;
-            all.push(b);
-        }
-    }
-    for w in 0..=255u32 {
-        for number in [0, 1, (2 * w).saturating_sub(1), 2 * w, 255] {
-            for life in [0u8, 1, 250, 251, 255] {
-                if number < 256 {
-                    let mut b = vec![1, life, w as u8, number as u8];
-                    b.extend([0; 32]);
-                    all.push(b);
-                    all.push(vec![2, life, w as u8, number as u8, number as u8]);
-                }
-            }
-        }
-    }
-    for w in [1u8, 2, 3, 31, 32] {
-        for first in 0..=2 * w {
-            for last in 0..=2 * w {
-                all.push(vec![2, 1, w, first, last]);
-            }
-        }
-    }
-    for place in 0..16 {
-        for cell in [4095u32, 4096, 65535] {
-            let mut b = vec![1, 1, 2, 3];
-            b.extend([0; 32]);
-            b[4 + 2 * place] = (cell % 256) as u8;
-            b[5 + 2 * place] = (cell / 256) as u8;
-            all.push(b);
-        }
-    }
-    all
-}
-
-/// Good frames, each also with one byte damaged and with one byte more or less.
-fn damaged(r: &mut Random) -> Vec<Vec<u8>> {
-    let mut all = vec![];
-    for _ in 0..5000 {
-        let b = good(r);
-        let mut d = b.clone();
-        let k = r.below(d.len() as u64) as usize;
-        d[k] = r.below(256) as u8;
-        let mut e = b.clone();
-        if r.below(2) == 0 {
-            e.push(0);
-        } else {
-            e.pop();
-        }
-        all.extend([b, d, e]);
-    }
-    all
-}
-
 /// What the program prints for these frames, a line each.
 fn printed(program: &str, frames: &[Vec<u8>]) -> Vec<Vec<u32>> {
     let input: Vec<u8> = frames.iter().flat_map(|b| std::iter::once(b.len() as u8).chain(b.iter().copied())).collect();
@@ -135,7 +51,7 @@ fn printed(program: &str, frames: &[Vec<u8>]) -> Vec<Vec<u32>> {
 fn main() {
     let program = std::env::args().nth(1).expect("the program's path");
     let mut frames = edges();
-    frames.extend(damaged(&mut Random(1)));
+    frames.extend(damaged(&mut Random::new(1)));
     let mut accepted = 0;
     // framecheck takes 65,536 bytes at a time
     for batch in frames.chunks(1500) {

@@ -11,9 +11,9 @@
 //! - "rcv v" at R is the arrival and at once a reply event, which answers 20 where the figure's R sends nothing.
 
 use super::mistakes::{step, Mistake};
-use super::{counts, limits, ones, ran, record, supply};
+use super::{counts, limits, ran, record, supply};
 use crate::built::{Link, Reply};
-use crate::compare::{compare_with, Case};
+use crate::compare::{compare_with, ones, Case};
 use crate::limits::number;
 
 const UNIT: u8 = 4;

@@ -1,64 +1,10 @@
 //! Links that a caller made up: question 4 clause by clause, and what every event keeps.
 
-use super::random::Random;
 use super::{limits, supply};
-use crate::built::{Counts, Data, Link, Reply};
+use crate::built::{Counts, Link, Reply};
+use crate::draw::sound_link;
 use crate::limits::{number, Refusal};
-
-/// Any sound link: each field is drawn from all that question 4 lets pass, with anything at all where it does not look.
-fn sound_link(random: &mut Random) -> Link {
-    let w = 1 + random.one_of(&[1, 2, 4, 32]);
-    let w = 1 + random.below(w - 1);
-    let mut time = || 1 + random.below(250) as u16;
-    let (_, mut link) = Link::open(limits(w, time(), time(), time(), 0));
-    let ring = 2 * w;
-    let l = link.limits;
-    let outstanding = random.below(w + 1);
-    let oldest = random.below(ring);
-    link.mat.oldest = oldest as u8;
-    link.mat.next = ((oldest + outstanding) % ring) as u8;
-    link.pad.wanted = random.below(ring) as u8;
-    for place in 0..32 {
-        let row = [0; 16].map(|_: u16| random.below(4096) as u16);
-        (link.mat.rows[place], link.pad.rows[place]) = (row, row);
-        link.mat.timers[place] = random.below(usize::from(l.resend_wait) + 1) as u16 * random.below(2) as u16;
-        link.pad.timers[place] = random.below(usize::from(l.reply_wait) + 1) as u16;
-        link.pad.held[place] = random.once_in(2);
-        if place >= w {
-            link.mat.marked[place] = random.once_in(2);
-            link.mat.timers[place] = random.next() as u16;
-            link.pad.timers[place] = random.next() as u16;
-            link.mat.rows[place] = [65535; 16];
-        } else if !link.pad.held[place] {
-            link.pad.rows[place] = [65535; 16];
-        }
-    }
-    for k in 1..outstanding {
-        link.mat.marked[(oldest + k) % w] = random.once_in(2);
-    }
-    for k in outstanding..w {
-        link.mat.rows[(oldest + k) % w] = [4096; 16];
-    }
-    let most = random.one_of(&[3, 33]);
-    link.data.count = 32usize.saturating_sub(random.below(most));
-    link.replies.count = 32usize.saturating_sub(random.below(most));
-    for place in 0..32 {
-        let row = [random.below(4096) as u16; 16];
-        let (number, life) = (random.below(ring) as u8, 1 + random.below(usize::from(l.data_life)) as u16);
-        link.data.messages[place] = Data { number, life, row };
-        let first = if random.once_in(2) { random.below(ring) } else { oldest };
-        let last = ((first + random.below(w)) % ring) as u8;
-        let life = 1 + random.below(usize::from(l.reply_life)) as u16;
-        link.replies.messages[place] = Reply { first: first as u8, last, life };
-        if place >= link.data.count {
-            link.data.messages[place] = Data { number: 255, life: 0, row: [65535; 16] };
-        }
-        if place >= link.replies.count {
-            link.replies.messages[place] = Reply { first: 255, last: 0, life: 0 };
-        }
-    }
-    link
-}
+use crate::random::Random;
 
 /// After each event the link is sound; a refused one changes nothing; the counts are the rises; a run of one is the same.
 /// Questions 13, 18 and 19 arise here, and only here.

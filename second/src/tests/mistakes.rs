@@ -3,11 +3,11 @@
 //! A variant is the right call with one thing done wrong before or after it, so that the code that is tested has no switch.
 
 use super::lists::{found_by_random_lists, found_by_short_lists};
-use super::shrink::shown;
-use super::{limits, ones, ran, record, supply};
+use super::{limits, ran, record, supply};
 use crate::built::{Counts, Link, Reply};
-use crate::compare::{compare_with, Case, Step};
+use crate::compare::{compare_with, ones, Case, Step};
 use crate::limits::Refusal;
+use crate::shrink::shown;
 
 /// The paper's five, in its order.
 #[derive(Clone, Copy, Debug, PartialEq, Eq)]

@@ -1,17 +1,18 @@
 //! Tests. What they share stands here: supplies, lists on a fresh link, random numbers.
 
 mod cases;
+mod differ;
 mod figure;
+mod frame_checks;
 mod frames;
 mod lists;
 mod made_up;
 mod mistakes;
-mod random;
 mod shrink;
 mod trial;
 
 use crate::built::{Counts, Link};
-use crate::compare::{compare, Call, Case};
+use crate::compare::{compare, ones, Call, Case};
 use crate::limits::{Limits, CELLS};
 
 fn limits(window: usize, data_life: u16, reply_life: u16, reply_wait: u16, resend_wait: u16) -> Limits {
@@ -35,10 +36,6 @@ fn list(text: &str) -> Vec<(u8, u8)> {
         .map(|event| event.split_once(' ').map(|(kind, argument)| (byte(kind), byte(argument))))
         .map(|event| event.expect("two bytes"))
         .collect()
-}
-
-fn ones(events: &[(u8, u8)]) -> Vec<Call> {
-    events.iter().map(|&(kind, argument)| Call::One { kind, argument }).collect()
 }
 
 /// What a run of events on a fresh link gave.

@@ -9,6 +9,8 @@ impl Random {
         Random((seed + 1).wrapping_mul(0x9E37_79B9_7F4A_7C15) | 1)
     }
 
+    /// 64 bits.
+    #[allow(clippy::should_implement_trait)]
     pub fn next(&mut self) -> u64 {
         self.0 ^= self.0 << 13;
         self.0 ^= self.0 >> 7;
@@ -26,10 +28,12 @@ impl Random {
         self.below(n) == 0
     }
 
+    /// Any byte.
     pub fn byte(&mut self) -> u8 {
         self.below(256) as u8
     }
 
+    /// One of these.
     pub fn one_of<T: Copy>(&mut self, choices: &[T]) -> T {
         choices[self.below(choices.len())]
     }

@@ -1,0 +1,96 @@
+//! Events per second of the proved run and of the run here, and single runs for callgrind to count.
+//!
+//! `bench time` prints a line for each ride: name, window, events, how many are refused, and events per second of both. `bench proved N` and
+//! `bench second N` do ride N once; their work stands in matlink_run and in second_run.
+
+use second::built::Link;
+use second::image::IMAGE_LENGTH;
+use second::library::{asked, Library};
+use second::proved::Proved;
+use second::rides::{all_rides, Ride};
+use std::hint::black_box;
+use std::time::Instant;
+
+/// How many events each ride has.
+const LENGTH: usize = 20_000;
+
+/// How often a ride is timed; the fastest counts.
+const TIMES: usize = 30;
+
+/// Buffers that the caller lends, the same for both.
+struct Lent {
+    image: Vec<u64>,
+    link: Link,
+    record: Vec<u16>,
+    answers: Vec<u8>,
+    counts: [u64; 3],
+}
+
+impl Lent {
+    fn new(ride: &Ride) -> Lent {
+        let mut image = vec![0; IMAGE_LENGTH];
+        assert_eq!(Proved.open(asked(ride.limits), &mut image), 0);
+        let (opened, link) = Link::open(ride.limits);
+        assert_eq!(opened, Ok(()));
+        Lent { image, link, record: vec![0; ride.supply.len()], answers: vec![0; ride.events.len() / 2], counts: [0; 3] }
+    }
+
+    fn proved(&mut self, ride: &Ride) -> u8 {
+        let Lent { image, record, answers, counts, .. } = self;
+        Proved.run(image, &ride.events, &ride.supply, record, answers, counts)
+    }
+
+    fn second(&mut self, ride: &Ride) -> bool {
+        second_run(&mut self.link, &ride.events, &ride.supply, &mut self.record, &mut self.answers)
+    }
+}
+
+/// A name that callgrind finds.
+#[inline(never)]
+#[no_mangle]
+pub fn second_run(link: &mut Link, events: &[u8], supply: &[u16], record: &mut [u16], answers: &mut [u8]) -> bool {
+    link.run(events, supply, record, answers).is_ok()
+}
+
+/// Events per second, the best of some runs, each on a fresh link and in buffers that an earlier run wrote.
+fn rate(ride: &Ride, run: impl Fn(&mut Lent)) -> f64 {
+    let mut lent = Lent::new(ride);
+    let mut best = f64::MAX;
+    for _ in 0..TIMES {
+        let fresh = Lent::new(ride);
+        (lent.image, lent.link) = (fresh.image, fresh.link);
+        let start = Instant::now();
+        run(black_box(&mut lent));
+        best = best.min(start.elapsed().as_secs_f64());
+    }
+    (ride.events.len() / 2) as f64 / best
+}
+
+/// How many events of the ride are refused, which both must agree on.
+fn refused(ride: &Ride) -> usize {
+    let (mut proved, mut second) = (Lent::new(ride), Lent::new(ride));
+    proved.proved(ride);
+    second.second(ride);
+    assert!(proved.answers == second.answers && proved.record == second.record, "both runs are the same");
+    proved.answers.iter().filter(|answer| **answer != 0).count()
+}
+
+fn times(rides: &[Ride]) {
+    for ride in rides {
+        let proved = rate(ride, |lent| assert_eq!(lent.proved(ride), 0));
+        let second = rate(ride, |lent| assert!(lent.second(ride)));
+        let (events, refused) = (ride.events.len() / 2, refused(ride));
+        println!("{}\t{}\t{events}\t{refused}\t{proved:.0}\t{second:.0}", ride.name, ride.limits.window);
+    }
+}
+
+fn main() {
+    let words: Vec<String> = std::env::args().skip(1).collect();
+    let rides = all_rides(LENGTH);
+    let ride = words.get(1).map(|n| &rides[n.parse::<usize>().expect("a ride's place")]);
+    match (words.first().map(String::as_str), ride) {
+        (Some("proved"), Some(ride)) => assert_eq!(Lent::new(ride).proved(ride), 0),
+        (Some("second"), Some(ride)) => assert!(Lent::new(ride).second(ride)),
+        _ => times(&rides),
+    }
+}

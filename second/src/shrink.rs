@@ -1,0 +1,133 @@
+//! Cutting a failing case to a short one.
+
+use crate::compare::{ones, Call, Case};
+
+/// The events of all calls. Runs that are refused add events here: the caller tries whether the case still fails.
+pub fn flat(calls: &[Call]) -> Vec<(u8, u8)> {
+    let mut events = vec![];
+    for call in calls {
+        match call {
+            Call::One { kind, argument } => events.push((*kind, *argument)),
+            Call::Run { events: bytes, .. } => events.extend(bytes.chunks_exact(2).map(|event| (event[0], event[1]))),
+        }
+    }
+    events
+}
+
+/// A case that still fails and from which no call can be taken, where no argument and no limit can be made smaller. Runs are
+/// taken apart first where the case then still fails.
+pub fn shortest(mut case: Case, fails: &dyn Fn(&Case) -> bool) -> Case {
+    assert!(fails(&case), "only a failing case can be cut");
+    let apart = Case { calls: ones(&flat(&case.calls)), ..case.clone() };
+    if fails(&apart) {
+        case = apart;
+    }
+    loop {
+        let before = case.clone();
+        fewer_calls(&mut case, fails);
+        smaller_arguments(&mut case, fails);
+        smaller_limits(&mut case, fails);
+        if case == before {
+            return case;
+        }
+    }
+}
+
+/// Takes over a change after which the case still fails.
+fn attempt(case: &mut Case, fails: &dyn Fn(&Case) -> bool, change: impl FnOnce(&mut Case)) -> bool {
+    let mut changed = case.clone();
+    change(&mut changed);
+    let taken = changed != *case && fails(&changed);
+    if taken {
+        *case = changed;
+    }
+    taken
+}
+
+/// Takes away stretches of calls, from half of them down to two apart and then one.
+fn fewer_calls(case: &mut Case, fails: &dyn Fn(&Case) -> bool) {
+    let mut size = case.calls.len().div_ceil(2);
+    while size > 0 {
+        let mut end = case.calls.len();
+        while end > 0 {
+            let start = end.saturating_sub(size);
+            attempt(case, fails, |case| {
+                case.calls.drain(start..end);
+            });
+            end = start;
+        }
+        size /= 2;
+    }
+    // without one message, those behind it have a smaller place
+    for at in (0..case.calls.len()).rev() {
+        for until in [case.calls.len(), at + 2, at + 3, at + 4] {
+            let taken = attempt(case, fails, |case| {
+                let until = until.min(case.calls.len());
+                for call in &mut case.calls[at + 1..until.max(at + 1)] {
+                    if let Call::One { kind: 2 | 3 | 5 | 6 | 7, argument } = call {
+                        *argument = argument.saturating_sub(1);
+                    }
+                }
+                case.calls.remove(at);
+            });
+            if taken {
+                break;
+            }
+        }
+    }
+    // a sending and what depends on it often stand apart: two calls at once
+    'again: loop {
+        let length = case.calls.len();
+        for second in (1..length).rev() {
+            for first in (second.saturating_sub(12)..second).rev() {
+                let taken = attempt(case, fails, |case| {
+                    case.calls.remove(second);
+                    case.calls.remove(first);
+                });
+                if taken {
+                    continue 'again;
+                }
+            }
+        }
+        return;
+    }
+}
+
+fn smaller_arguments(case: &mut Case, fails: &dyn Fn(&Case) -> bool) {
+    for at in 0..case.calls.len() {
+        let Call::One { kind, argument } = case.calls[at] else { continue };
+        for smaller in [0, 1, argument / 2, argument.saturating_sub(1)] {
+            let calls = |case: &mut Case| case.calls[at] = Call::One { kind, argument: smaller };
+            if smaller < argument && attempt(case, fails, calls) {
+                break;
+            }
+        }
+    }
+}
+
+fn smaller_limits(case: &mut Case, fails: &dyn Fn(&Case) -> bool) {
+    for _ in 0..6 {
+        attempt(case, fails, |case| case.limits.window = (case.limits.window / 2).max(1));
+        attempt(case, fails, |case| case.limits.window = (case.limits.window - 1).max(1));
+        attempt(case, fails, |case| case.limits.data_life = (case.limits.data_life / 2).max(1));
+        attempt(case, fails, |case| case.limits.reply_life = (case.limits.reply_life / 2).max(1));
+        attempt(case, fails, |case| case.limits.reply_wait = (case.limits.reply_wait / 2).max(1));
+        attempt(case, fails, |case| case.limits.resend_wait = 0);
+        attempt(case, fails, |case| case.supply.truncate(case.supply.len() / 32 * 16));
+        attempt(case, fails, |case| case.record.truncate(case.record.len() / 32 * 16));
+    }
+}
+
+/// How a failing case is shown.
+pub fn shown(case: &Case) -> String {
+    let list: Vec<String> = case
+        .calls
+        .iter()
+        .map(|call| match call {
+            Call::One { kind, argument } => format!("{kind} {argument}"),
+            Call::Run { events, answers } => format!("run of {events:?} with {answers} answers"),
+        })
+        .collect();
+    let (supply, record) = (case.supply.len(), case.record.len());
+    format!("{:?}, supply of {supply} cells, record of {record} cells\nlist: {}", case.limits, list.join(", "))
+}

@@ -1,0 +1,134 @@
+//! The comparison with a library finds what is wrong in one: here the library is the link of this crate, kept in an image.
+
+use super::mistakes::{step, Mistake};
+use super::{limits, record, supply};
+use crate::built::{Counts, Link};
+use crate::compare::Case;
+use crate::differ::{difference, ride_difference, Pair};
+use crate::draw::{random_case, sound_link};
+use crate::image::{image_of, link_of, IMAGE_LENGTH};
+use crate::library::{words, Asked, Library};
+use crate::limits::{number, Limits, Refusal};
+use crate::random::Random;
+use crate::short::{all_short, Short};
+use crate::shrink::{flat, shortest};
+
+/// A library with this mistake, or with none.
+struct StandIn(Option<Mistake>);
+
+fn give(done: Result<Counts, Refusal>, counts: &mut [u64]) -> u8 {
+    counts[..3].copy_from_slice(&words(done.unwrap_or_default()));
+    number(&done)
+}
+
+fn keep(link: &Link, image: &mut [u64]) {
+    image[..IMAGE_LENGTH].copy_from_slice(&image_of(link));
+}
+
+/// Times above 65,535 as 65,535.
+fn limits_of((window, times): Asked) -> Limits {
+    let [data_life, reply_life, reply_wait, resend_wait] = times.map(|time| time.min(65_535) as u16);
+    limits(window as usize, data_life, reply_life, reply_wait, resend_wait)
+}
+
+impl Library for StandIn {
+    fn open(&self, asked: Asked, image: &mut [u64]) -> u8 {
+        let (answer, link) = Link::open(limits_of(asked));
+        if answer.is_ok() {
+            keep(&link, image);
+        }
+        number(&answer)
+    }
+
+    fn step(&self, image: &mut [u64], event: (u32, u32), supply: &[u16], record: &mut [u16], counts: &mut [u64]) -> u8 {
+        let mut link = link_of(image);
+        let done = step(self.0, &mut link, event.0 as u8, event.1 as u8, supply, record);
+        keep(&link, image);
+        give(done, counts)
+    }
+
+    fn run(
+        &self,
+        image: &mut [u64],
+        events: &[u8],
+        supply: &[u16],
+        record: &mut [u16],
+        answers: &mut [u8],
+        counts: &mut [u64],
+    ) -> u8 {
+        let mut link = link_of(image);
+        let done = link.run(events, supply, record, answers);
+        keep(&link, image);
+        give(done, counts)
+    }
+
+    fn ride(
+        &self,
+        asked: Asked,
+        events: &[u8],
+        supply: &[u16],
+        record: &mut [u16],
+        answers: &mut [u8],
+        counts: &mut [u64],
+    ) -> u8 {
+        let (opened, mut link) = Link::open(limits_of(asked));
+        give(opened.and_then(|_| link.run(events, supply, record, answers)), counts)
+    }
+}
+
+const MISTAKES: [Mistake; 5] =
+    [Mistake::EveryHeldRow, Mistake::FirstArrivalOnly, Mistake::FirstSendingOnly, Mistake::Backwards, Mistake::OldestFirst];
+
+#[test]
+fn an_image_gives_the_link_back() {
+    let mut random = Random::new(3);
+    for _ in 0..200 {
+        let link = sound_link(&mut random);
+        let image = image_of(&link);
+        assert_eq!(image.len(), IMAGE_LENGTH);
+        assert_eq!(link_of(&image), link);
+    }
+}
+
+#[test]
+fn nothing_differs_from_the_right_link() {
+    let right = StandIn(None);
+    for seed in 0..300 {
+        let case = random_case(seed);
+        assert_eq!(difference(&right, &case), None);
+        let events: Vec<u8> = flat(&case.calls).into_iter().flat_map(|(kind, argument)| [kind, argument]).collect();
+        assert_eq!(ride_difference(&right, &case, &events, events.len() / 2), None);
+    }
+    for short in all_short(2) {
+        let compared = short.compare(&right).expect("nothing differs");
+        assert_eq!(compared.lists, 23 * 23);
+    }
+}
+
+#[test]
+fn each_mistake_is_found_by_random_lists() {
+    for mistake in MISTAKES {
+        let wrong = StandIn(Some(mistake));
+        let fails = |case: &Case| case.limits.accept().is_ok() && difference(&wrong, case).is_some();
+        let case = (0..3000).map(random_case).find(|case| fails(case)).expect("the mistake is found");
+        assert!(shortest(case, &fails).calls.len() <= 24, "{mistake:?}");
+    }
+}
+
+#[test]
+fn mistakes_are_found_by_short_lists() {
+    for mistake in MISTAKES {
+        let short = Short { limits: limits(2, 1, 1, 1, 0), rounds: 3, space: 6, length: 7 };
+        assert!(short.compare(&StandIn(Some(mistake))).is_err(), "{mistake:?}");
+    }
+}
+
+/// A byte that nothing must write.
+#[test]
+fn a_changed_number_is_found() {
+    let (mut pair, _, found) = Pair::open(&StandIn(None), limits(2, 1, 1, 1, 0), &record(2));
+    assert_eq!(found, None);
+    pair.image[7] = 1;
+    let call = crate::compare::Call::One { kind: 8, argument: 1 };
+    assert!(pair.call(&StandIn(None), &call, &supply(1)).1.is_some());
+}
