@@ -6,6 +6,7 @@
 
 #![warn(missing_docs)]
 
+pub mod air;
 pub mod built;
 pub mod checks;
 pub mod compare;
