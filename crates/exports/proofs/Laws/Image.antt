@@ -131,9 +131,6 @@ long-pad p f = long-of (p .wanted ∷ []) (map bit (p .held)) (p .timers) (p .ce
 long-data : (t : DataTable) → DataFits t → length (dataImage t) ≡ 577
 long-data t f = long-of (t .count ∷ []) (t .numbers) (t .lives) (t .cells) 1 512 refl (f .0 .long) (f .1 .long) (f .2 .long)
 
-long-reply : (t : ReplyTable) → ReplyFits t → length (replyImage t) ≡ 97
-long-reply t f = long-of (t .count ∷ []) (t .firsts) (t .lasts) (t .lives) 1 32 refl (f .0 .long) (f .1 .long) (f .2 .long)
-
 -- the parts of an image of five
 module _ (l m p d r : List ℕ) (kl : length l ≡ 5) (km : length m ≡ 578) (kp : length p ≡ 577) (kd : length d ≡ 577) where
   long-two : length (l ++ m) ≡ 583

@@ -3,20 +3,13 @@ use Prim.Native.Nat.{ℕ, _+_, _≤_, _<_}
 use mathlib.Core.Path.{_≡_, _∙_, ap, ap₂}
 use mathlib.Core.List.{List, _++_, append-assoc}
 use native.Mathlib.Omega.{arith}
-use lib.ListN.{length, getD, take, drop, length-append, length-drop, List·getD-append}
+use lib.ListN.{length, getD, take, drop, length-append, List·getD-append}
 use lib.Seq.{length-take-le, drop-drop, take-at, drop-append-add, getD-append-add}
 use Rattle.exports.specs.Image.{placed}
 
 -- the front of a buffer with `xs` in it
 front : (at : ℕ) (xs buffer : List ℕ) → at ≤ length buffer → length (take at buffer ++ xs) ≡ at + length xs
 front at xs buffer h = length-append (take at buffer) xs ∙ ap (_+ length xs) (length-take-le at buffer h)
-
-pub length-placed : (at : ℕ) (xs buffer : List ℕ) → at + length xs ≤ length buffer → length (placed at xs buffer) ≡ length buffer
-unfolding placed
-length-placed at xs buffer h =
-    length-append (take at buffer ++ xs) (drop (at + length xs) buffer)
-    ∙ ap₂ _+_ (front at xs buffer (omega arith)) (length-drop (at + length xs) buffer)
-    ∙ omega arith
 
 -- one list and another behind it
 pub placed-on : (at at' : ℕ) (xs ys buffer b : List ℕ) → b ≡ placed at xs buffer → at' ≡ at + length xs → at + length xs ≤ length buffer

@@ -49,11 +49,6 @@ none-wrote at xs =
       behind = omega arith;
     }
 
--- text written at the front is read there
-pub text-front : (text xs ys : List ℕ) (p : ℕ) → Wrote 0 text xs ys p → take p ys ≡ text
-unfolding wrote
-text-front text xs ys p w = ap (take p) (w .buffer) ∙ take-at text (drop (0 + length text) xs) p (omega arith)
-
 -- a loop that copies: a turn, and its end
 pub word-turn : (b : List ℕ) (at : ℕ) (s ys : List ℕ) (i : ℕ) → ys ≡ paste b at s i → at + length s ≤ length b → i < length s
     → set ys (at + i) (getD s i 0) ≡ paste b at s (i + 1)

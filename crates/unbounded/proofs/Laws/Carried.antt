@@ -156,8 +156,3 @@ carried-act l g supply space s (tick d) b c q = carried-later l supply space s c
 pub carried-after : (l : Limits) (g : Good l) (supply : List ℕ) (space : ℕ) (s : Ends) (e : Event) → Inv l s → Carried supply space s
     → Carried supply space (after l supply space s e)
 carried-after l g supply space s e i c = after-keeps (Carried supply space) l supply space s e c (carried-act l g supply space s e (i .base) c)
-
--- the row of message p
-pub data-row : (supply : List ℕ) (space : ℕ) (s : Ends) (p : ℕ) → Carried supply space s → p < length (s .dataTable)
-    → dataAt s p .row ≡ rowAt supply (dataAt s p .number)
-data-row supply space s p c h = all-at (RowOk supply) p (s .dataTable) noData (c .datas) h
