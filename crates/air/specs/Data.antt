@@ -18,6 +18,10 @@ use Rattle.air.specs.Rules.{soundMessage, soundMessages}
 abbrev pub dataAt : List ℕ → List ℕ → List ℕ → ℕ → Message Data
 dataAt numbers lives cells i = record { body = record { number = getD numbers i 0; row = rowAt cells i }; life = getD lives i 0 }
 
+-- the table of a count and the three arrays
+abbrev pub dataTable : ℕ → List ℕ → List ℕ → List ℕ → DataTable
+dataTable count numbers lives cells = record { count = count; numbers = numbers; lives = lives; cells = cells }
+
 unfoldable pub dataMessages : DataTable → List (Message Data)
 dataMessages t = tab (t .count) (dataAt (t .numbers) (t .lives) (t .cells))
 

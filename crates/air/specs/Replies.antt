@@ -17,6 +17,10 @@ use Rattle.air.specs.Rules.{soundMessage, soundMessages}
 abbrev pub replyAt : List ℕ → List ℕ → List ℕ → ℕ → Message Reply
 replyAt firsts lasts lives i = record { body = record { first = getD firsts i 0; last = getD lasts i 0 }; life = getD lives i 0 }
 
+-- the table of a count and the three arrays
+abbrev pub replyTable : ℕ → List ℕ → List ℕ → List ℕ → ReplyTable
+replyTable count firsts lasts lives = record { count = count; firsts = firsts; lasts = lasts; lives = lives }
+
 unfoldable pub replyMessages : ReplyTable → List (Message Reply)
 replyMessages t = tab (t .count) (replyAt (t .firsts) (t .lasts) (t .lives))
 

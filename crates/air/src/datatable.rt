@@ -83,7 +83,18 @@ pub fn put(l: Limits, t: DataTable, m: DataMessage) -> DataAnswer
         (put (dataMessage m) (dataMessages t)) r ⌝ }
 {
     if sound_with(l, t, m) {
-        sounddata::put(l, t, m)
+        let mut numbers = t.numbers;
+        let mut lives = t.lives;
+        let mut cells = t.cells;
+        let r = sounddata::put(l, t.count, &mut numbers, &mut lives, &mut cells, m);
+        let answer = r.answer;
+        let table = DataTable {
+            count: r.count,
+            numbers,
+            lives,
+            cells,
+        };
+        DataAnswer { answer, table }
     } else {
         unsound(t)
     }
@@ -94,7 +105,18 @@ pub fn remove(l: Limits, t: DataTable, p: usize) -> DataAnswer
     ensures { λ r. ⌜ DataCall l t (ask 4 (soundLimits l && soundDataTable l t) ∷ placeQuestions p (dataMessages t)) (remove p (dataMessages t)) r ⌝ }
 {
     if sound(l, t) {
-        sounddata::remove(l, t, p)
+        let mut numbers = t.numbers;
+        let mut lives = t.lives;
+        let mut cells = t.cells;
+        let r = sounddata::remove(l, t.count, &mut numbers, &mut lives, &mut cells, p);
+        let answer = r.answer;
+        let table = DataTable {
+            count: r.count,
+            numbers,
+            lives,
+            cells,
+        };
+        DataAnswer { answer, table }
     } else {
         unsound(t)
     }
@@ -105,7 +127,18 @@ pub fn tick(l: Limits, t: DataTable, d: u16) -> DataAnswer
     ensures { λ r. ⌜ DataCall l t (ask 4 (soundLimits l && soundDataTable l t) ∷ timeQuestions d) (age d (dataMessages t)) r ⌝ }
 {
     if sound(l, t) {
-        sounddata::tick(l, t, d)
+        let mut numbers = t.numbers;
+        let mut lives = t.lives;
+        let mut cells = t.cells;
+        let r = sounddata::tick(l, t.count, &mut numbers, &mut lives, &mut cells, d);
+        let answer = r.answer;
+        let table = DataTable {
+            count: r.count,
+            numbers,
+            lives,
+            cells,
+        };
+        DataAnswer { answer, table }
     } else {
         unsound(t)
     }
@@ -116,7 +149,10 @@ pub fn read(l: Limits, t: DataTable, p: usize) -> DataRead
     ensures { λ r. ⌜ DataReading t p (ask 4 (soundLimits l && soundDataTable l t) ∷ placeQuestions p (dataMessages t)) r ⌝ }
 {
     if sound(l, t) {
-        sounddata::read(l, t, p)
+        let numbers = t.numbers;
+        let lives = t.lives;
+        let cells = t.cells;
+        sounddata::read(l, t.count, &numbers, &lives, &cells, p)
     } else {
         sounddata::unread(Answer::Unsound)
     }

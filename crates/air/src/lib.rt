@@ -7,6 +7,14 @@ pub mod replytable;
 pub mod sounddata;
 pub mod soundreplies;
 
+use limits::answer::Answer;
+
+// What a call on a lent table gives: the answer, and how many messages the table then has.
+pub struct Counted {
+    pub answer: Answer,
+    pub count: usize,
+}
+
 fn wide(x: u16) -> usize
     ensures { λ r. ⌜ r ≡ x ⌝ }
 {
@@ -19,3 +27,6 @@ fn outlives(life: u16, d: u16) -> bool
 {
     d < life
 }
+
+// Does nothing. Lent as slices, the arrays of a table tell the proofs their lengths, which a reference to an array does not.
+fn lengths(_a: &[u16], _b: &[u16], _c: &[u16]) {}

@@ -84,7 +84,18 @@ pub fn put(l: Limits, t: ReplyTable, m: ReplyMessage) -> ReplyAnswer
         (put (replyMessage m) (replyMessages t)) r ⌝ }
 {
     if sound_with(l, t, m) {
-        soundreplies::put(l, t, m)
+        let mut firsts = t.firsts;
+        let mut lasts = t.lasts;
+        let mut lives = t.lives;
+        let r = soundreplies::put(l, t.count, &mut firsts, &mut lasts, &mut lives, m);
+        let answer = r.answer;
+        let table = ReplyTable {
+            count: r.count,
+            firsts,
+            lasts,
+            lives,
+        };
+        ReplyAnswer { answer, table }
     } else {
         unsound(t)
     }
@@ -95,7 +106,18 @@ pub fn remove(l: Limits, t: ReplyTable, p: usize) -> ReplyAnswer
     ensures { λ r. ⌜ ReplyCall l t (ask 4 (soundLimits l && soundReplyTable l t) ∷ placeQuestions p (replyMessages t)) (remove p (replyMessages t)) r ⌝ }
 {
     if sound(l, t) {
-        soundreplies::remove(l, t, p)
+        let mut firsts = t.firsts;
+        let mut lasts = t.lasts;
+        let mut lives = t.lives;
+        let r = soundreplies::remove(l, t.count, &mut firsts, &mut lasts, &mut lives, p);
+        let answer = r.answer;
+        let table = ReplyTable {
+            count: r.count,
+            firsts,
+            lasts,
+            lives,
+        };
+        ReplyAnswer { answer, table }
     } else {
         unsound(t)
     }
@@ -106,7 +128,18 @@ pub fn tick(l: Limits, t: ReplyTable, d: u16) -> ReplyAnswer
     ensures { λ r. ⌜ ReplyCall l t (ask 4 (soundLimits l && soundReplyTable l t) ∷ timeQuestions d) (age d (replyMessages t)) r ⌝ }
 {
     if sound(l, t) {
-        soundreplies::tick(l, t, d)
+        let mut firsts = t.firsts;
+        let mut lasts = t.lasts;
+        let mut lives = t.lives;
+        let r = soundreplies::tick(l, t.count, &mut firsts, &mut lasts, &mut lives, d);
+        let answer = r.answer;
+        let table = ReplyTable {
+            count: r.count,
+            firsts,
+            lasts,
+            lives,
+        };
+        ReplyAnswer { answer, table }
     } else {
         unsound(t)
     }
@@ -117,7 +150,10 @@ pub fn read(l: Limits, t: ReplyTable, p: usize) -> ReplyRead
     ensures { λ r. ⌜ ReplyReading t p (ask 4 (soundLimits l && soundReplyTable l t) ∷ placeQuestions p (replyMessages t)) r ⌝ }
 {
     if sound(l, t) {
-        soundreplies::read(l, t, p)
+        let firsts = t.firsts;
+        let lasts = t.lasts;
+        let lives = t.lives;
+        soundreplies::read(l, t.count, &firsts, &lasts, &lives, p)
     } else {
         soundreplies::unread(Answer::Unsound)
     }

@@ -1,9 +1,9 @@
-// Inner: called by datatable and by the link. The data table's calls where question 4 has been put and passed.
+// Inner: called by datatable and by the link. The data table's calls where question 4 has been put and passed. The arrays are
+// lent and change in place.
 ghost use mathlib.Core.Path.{_≡_};
 ghost use mathlib.Core.Bool.{true, _&&_};
 ghost use Prim.Native.Nat.{_*_, _<_, _≤_};
 ghost use lib.Dec.{ltb};
-ghost use lib.ListN.{length};
 ghost use Rattle.limits.specs.Questions.{timeQuestions};
 ghost use Rattle.limits.specs.Limits.{soundLimits};
 ghost use Rattle.limits.specs.Cells.{rowAt};
@@ -11,6 +11,7 @@ ghost use Rattle.limits.specs.Tables.{put, remove, age, capacity};
 ghost use Rattle.rows.specs.Arrays.{written};
 ghost use Rattle.air.specs.Rules.{roomQuestions, placeQuestions};
 ghost use Rattle.air.specs.Data.{
+  dataTable,
   dataMessages,
   dataMessage,
   soundDataMessage,
@@ -19,7 +20,7 @@ ghost use Rattle.air.specs.Data.{
   DataCall,
   DataReading,
 };
-use crate::datatable::DataAnswer;
+use crate::Counted;
 use crate::datatable::DataMessage;
 use crate::datatable::DataRead;
 use crate::datatable::DataTable;
@@ -60,61 +61,69 @@ pub fn table_sound(l: Limits, t: DataTable) -> bool
 }
 
 // Whether a message more finds a place.
-pub fn room(t: DataTable) -> bool
-    ensures { λ r. ⌜ r ≡ ltb (length (dataMessages t)) capacity ⌝ }
+pub fn room(count: usize) -> bool
+    ensures { λ r. ⌜ r ≡ ltb count capacity ⌝ }
 {
-    t.count < 32
+    count < 32
 }
 
-pub fn put(l: Limits, t: DataTable, m: DataMessage) -> DataAnswer
-    requires { ⌜ (soundLimits l ≡ true) × (soundDataTable l t ≡ true) × (soundDataMessage l (dataMessage m) ≡ true) ⌝ }
-    ensures { λ r. ⌜ DataCall l t (roomQuestions 13 (dataMessages t)) (put (dataMessage m) (dataMessages t)) r ⌝ }
+pub fn put(
+    l: Limits,
+    count: usize,
+    numbers: &mut [u16; 32],
+    lives: &mut [u16; 32],
+    cells: &mut [u16; 512],
+    m: DataMessage,
+) -> Counted
+    requires { ⌜ (soundLimits l ≡ true) × (soundDataTable l (dataTable count (now numbers) (now lives) (now cells)) ≡ true)
+        × (soundDataMessage l (dataMessage m) ≡ true) ⌝ }
+    ensures { λ r. ⌜ (let t = dataTable count (now (numbers .entry)) (now (lives .entry)) (now (cells .entry)) in
+        DataCall l t (roomQuestions 13 (dataMessages t)) (put (dataMessage m) (dataMessages t))
+        (record { answer = r .answer; table = dataTable (r .count) (now (numbers .exit)) (now (lives .exit)) (now (cells .exit)) })) ⌝ }
 {
-    let count = t.count;
     if count < 32 {
-        let mut next = t;
-        next.numbers[count] = m.number as u16;
-        next.lives[count] = m.life;
+        crate::lengths(numbers, lives, cells);
+        numbers[count] = m.number as u16;
+        lives[count] = m.life;
         let row = m.row;
-        rows::store(&mut next.cells, count, row);
-        next.count = count + 1;
-        DataAnswer {
+        rows::store(cells, count, row);
+        Counted {
             answer: Answer::Done,
-            table: next,
+            count: count + 1,
         }
     } else {
-        DataAnswer {
+        Counted {
             answer: Answer::DataTableFull,
-            table: t,
+            count,
         }
     }
 }
 
-pub fn remove(l: Limits, t: DataTable, p: usize) -> DataAnswer
-    requires { ⌜ (soundLimits l ≡ true) × (soundDataTable l t ≡ true) ⌝ }
-    ensures { λ r. ⌜ DataCall l t (placeQuestions p (dataMessages t)) (remove p (dataMessages t)) r ⌝ }
+pub fn remove(
+    l: Limits,
+    count: usize,
+    numbers: &mut [u16; 32],
+    lives: &mut [u16; 32],
+    cells: &mut [u16; 512],
+    p: usize,
+) -> Counted
+    requires { ⌜ (soundLimits l ≡ true) × (soundDataTable l (dataTable count (now numbers) (now lives) (now cells)) ≡ true) ⌝ }
+    ensures { λ r. ⌜ (let t = dataTable count (now (numbers .entry)) (now (lives .entry)) (now (cells .entry)) in
+        DataCall l t (placeQuestions p (dataMessages t)) (remove p (dataMessages t))
+        (record { answer = r .answer; table = dataTable (r .count) (now (numbers .exit)) (now (lives .exit)) (now (cells .exit)) })) ⌝ }
 {
-    let count = t.count;
     if p < count {
-        let mut numbers = t.numbers;
-        let mut lives = t.lives;
-        let mut cells = t.cells;
-        rows::close(&mut numbers, p, 1, count);
-        rows::close(&mut lives, p, 1, count);
-        rows::close(&mut cells, 16 * p, 16, 16 * count);
-        DataAnswer {
+        rows::close(numbers, p, 1, count);
+        rows::close(lives, p, 1, count);
+        rows::close(cells, 16 * p, 16, 16 * count);
+        Counted {
             answer: Answer::Done,
-            table: DataTable {
-                count: count - 1,
-                numbers,
-                lives,
-                cells,
-            },
+            count: count - 1,
         }
     } else {
-        DataAnswer {
+        Counted {
             answer: Answer::NoMessage,
-            table: t,
+            count,
         }
     }
 }
@@ -131,15 +140,19 @@ fn move_row(cells: &mut [u16; 512], from: usize, to: usize)
     rows::store(cells, to, row);
 }
 
-// The table with the messages that outlive d moved together, each with what is left of its life.
-fn aged(t: DataTable, d: u16) -> DataTable
-    requires { ⌜ t .count ≤ 32 ⌝ }
-    ensures { λ r. ⌜ dataMessages r ≡ age d (dataMessages t) ⌝ }
+// The messages that outlive d move together, each with what is left of its life. Gives their number.
+fn age(
+    count: usize,
+    numbers: &mut [u16; 32],
+    lives: &mut [u16; 32],
+    cells: &mut [u16; 512],
+    d: u16,
+) -> usize
+    requires { ⌜ count ≤ 32 ⌝ }
+    ensures { λ r. ⌜ dataMessages (dataTable r (now (numbers .exit)) (now (lives .exit)) (now (cells .exit)))
+        ≡ age d (dataMessages (dataTable count (now (numbers .entry)) (now (lives .entry)) (now (cells .entry)))) ⌝ }
 {
-    let count = t.count;
-    let mut numbers = t.numbers;
-    let mut lives = t.lives;
-    let mut cells = t.cells;
+    crate::lengths(numbers, lives, cells);
     let mut kept = 0;
     let mut i = 0;
     while i < count {
@@ -149,31 +162,35 @@ fn aged(t: DataTable, d: u16) -> DataTable
         if crate::outlives(life, d) {
             numbers[kept] = numbers[at];
             lives[kept] = life - d;
-            move_row(&mut cells, at, kept);
+            move_row(cells, at, kept);
             kept += 1;
         }
     }
-    DataTable {
-        count: kept,
-        numbers,
-        lives,
-        cells,
-    }
+    kept
 }
 
-pub fn tick(l: Limits, t: DataTable, d: u16) -> DataAnswer
-    requires { ⌜ (soundLimits l ≡ true) × (soundDataTable l t ≡ true) ⌝ }
-    ensures { λ r. ⌜ DataCall l t (timeQuestions d) (age d (dataMessages t)) r ⌝ }
+pub fn tick(
+    l: Limits,
+    count: usize,
+    numbers: &mut [u16; 32],
+    lives: &mut [u16; 32],
+    cells: &mut [u16; 512],
+    d: u16,
+) -> Counted
+    requires { ⌜ (soundLimits l ≡ true) × (soundDataTable l (dataTable count (now numbers) (now lives) (now cells)) ≡ true) ⌝ }
+    ensures { λ r. ⌜ (let t = dataTable count (now (numbers .entry)) (now (lives .entry)) (now (cells .entry)) in
+        DataCall l t (timeQuestions d) (age d (dataMessages t))
+        (record { answer = r .answer; table = dataTable (r .count) (now (numbers .exit)) (now (lives .exit)) (now (cells .exit)) })) ⌝ }
 {
     if 1 <= d {
-        DataAnswer {
+        Counted {
             answer: Answer::Done,
-            table: aged(t, d),
+            count: age(count, numbers, lives, cells, d),
         }
     } else {
-        DataAnswer {
+        Counted {
             answer: Answer::BadArgument,
-            table: t,
+            count,
         }
     }
 }
@@ -192,15 +209,22 @@ pub fn unread(answer: Answer) -> DataRead
     }
 }
 
-pub fn read(l: Limits, t: DataTable, p: usize) -> DataRead
-    requires { ⌜ (soundLimits l ≡ true) × (soundDataTable l t ≡ true) ⌝ }
-    ensures { λ r. ⌜ DataReading t p (placeQuestions p (dataMessages t)) r ⌝ }
+pub fn read(
+    l: Limits,
+    count: usize,
+    numbers: &[u16; 32],
+    lives: &[u16; 32],
+    cells: &[u16; 512],
+    p: usize,
+) -> DataRead
+    requires { ⌜ (soundLimits l ≡ true) × (soundDataTable l (dataTable count (now numbers) (now lives) (now cells)) ≡ true) ⌝ }
+    ensures { λ r. ⌜ (let t = dataTable count (now (numbers .entry)) (now (lives .entry)) (now (cells .entry)) in
+        DataReading t p (placeQuestions p (dataMessages t)) r) ⌝ }
 {
-    let count = t.count;
     if p < count {
-        let row = rows::load(&t.cells, p);
-        let number = crate::wide(t.numbers[p]);
-        let life = t.lives[p];
+        let row = rows::load(cells, p);
+        let number = crate::wide(numbers[p]);
+        let life = lives[p];
         DataRead {
             answer: Answer::Done,
             message: DataMessage { number, life, row },

@@ -1,14 +1,15 @@
-// Inner: called by replytable and by the link. The reply table's calls where question 4 has been put and passed.
+// Inner: called by replytable and by the link. The reply table's calls where question 4 has been put and passed. The arrays are
+// lent and change in place.
 ghost use mathlib.Core.Path.{_≡_};
 ghost use mathlib.Core.Bool.{true, _&&_};
 ghost use Prim.Native.Nat.{_<_, _≤_};
 ghost use lib.Dec.{ltb};
-ghost use lib.ListN.{length};
 ghost use Rattle.limits.specs.Questions.{timeQuestions};
 ghost use Rattle.limits.specs.Limits.{soundLimits};
 ghost use Rattle.limits.specs.Tables.{put, remove, age, capacity};
 ghost use Rattle.air.specs.Rules.{roomQuestions, placeQuestions};
 ghost use Rattle.air.specs.Replies.{
+  replyTable,
   replyMessages,
   replyMessage,
   soundReplyMessage,
@@ -17,7 +18,7 @@ ghost use Rattle.air.specs.Replies.{
   ReplyCall,
   ReplyReading,
 };
-use crate::replytable::ReplyAnswer;
+use crate::Counted;
 use crate::replytable::ReplyMessage;
 use crate::replytable::ReplyRead;
 use crate::replytable::ReplyTable;
@@ -58,73 +59,85 @@ pub fn table_sound(l: Limits, t: ReplyTable) -> bool
 }
 
 // Whether a message more finds a place.
-pub fn room(t: ReplyTable) -> bool
-    ensures { λ r. ⌜ r ≡ ltb (length (replyMessages t)) capacity ⌝ }
+pub fn room(count: usize) -> bool
+    ensures { λ r. ⌜ r ≡ ltb count capacity ⌝ }
 {
-    t.count < 32
+    count < 32
 }
 
-pub fn put(l: Limits, t: ReplyTable, m: ReplyMessage) -> ReplyAnswer
-    requires { ⌜ (soundLimits l ≡ true) × (soundReplyTable l t ≡ true) × (soundReplyMessage l (replyMessage m) ≡ true) ⌝ }
-    ensures { λ r. ⌜ ReplyCall l t (roomQuestions 18 (replyMessages t)) (put (replyMessage m) (replyMessages t)) r ⌝ }
+pub fn put(
+    l: Limits,
+    count: usize,
+    firsts: &mut [u16; 32],
+    lasts: &mut [u16; 32],
+    lives: &mut [u16; 32],
+    m: ReplyMessage,
+) -> Counted
+    requires { ⌜ (soundLimits l ≡ true) × (soundReplyTable l (replyTable count (now firsts) (now lasts) (now lives)) ≡ true)
+        × (soundReplyMessage l (replyMessage m) ≡ true) ⌝ }
+    ensures { λ r. ⌜ (let t = replyTable count (now (firsts .entry)) (now (lasts .entry)) (now (lives .entry)) in
+        ReplyCall l t (roomQuestions 18 (replyMessages t)) (put (replyMessage m) (replyMessages t))
+        (record { answer = r .answer; table = replyTable (r .count) (now (firsts .exit)) (now (lasts .exit)) (now (lives .exit)) })) ⌝ }
 {
-    let count = t.count;
     if count < 32 {
-        let mut next = t;
-        next.firsts[count] = m.first as u16;
-        next.lasts[count] = m.last as u16;
-        next.lives[count] = m.life;
-        next.count = count + 1;
-        ReplyAnswer {
+        crate::lengths(firsts, lasts, lives);
+        firsts[count] = m.first as u16;
+        lasts[count] = m.last as u16;
+        lives[count] = m.life;
+        Counted {
             answer: Answer::Done,
-            table: next,
+            count: count + 1,
         }
     } else {
-        ReplyAnswer {
+        Counted {
             answer: Answer::ReplyTableFull,
-            table: t,
+            count,
         }
     }
 }
 
-pub fn remove(l: Limits, t: ReplyTable, p: usize) -> ReplyAnswer
-    requires { ⌜ (soundLimits l ≡ true) × (soundReplyTable l t ≡ true) ⌝ }
-    ensures { λ r. ⌜ ReplyCall l t (placeQuestions p (replyMessages t)) (remove p (replyMessages t)) r ⌝ }
+pub fn remove(
+    l: Limits,
+    count: usize,
+    firsts: &mut [u16; 32],
+    lasts: &mut [u16; 32],
+    lives: &mut [u16; 32],
+    p: usize,
+) -> Counted
+    requires { ⌜ (soundLimits l ≡ true) × (soundReplyTable l (replyTable count (now firsts) (now lasts) (now lives)) ≡ true) ⌝ }
+    ensures { λ r. ⌜ (let t = replyTable count (now (firsts .entry)) (now (lasts .entry)) (now (lives .entry)) in
+        ReplyCall l t (placeQuestions p (replyMessages t)) (remove p (replyMessages t))
+        (record { answer = r .answer; table = replyTable (r .count) (now (firsts .exit)) (now (lasts .exit)) (now (lives .exit)) })) ⌝ }
 {
-    let count = t.count;
     if p < count {
-        let mut firsts = t.firsts;
-        let mut lasts = t.lasts;
-        let mut lives = t.lives;
-        rows::close(&mut firsts, p, 1, count);
-        rows::close(&mut lasts, p, 1, count);
-        rows::close(&mut lives, p, 1, count);
-        ReplyAnswer {
+        rows::close(firsts, p, 1, count);
+        rows::close(lasts, p, 1, count);
+        rows::close(lives, p, 1, count);
+        Counted {
             answer: Answer::Done,
-            table: ReplyTable {
-                count: count - 1,
-                firsts,
-                lasts,
-                lives,
-            },
+            count: count - 1,
         }
     } else {
-        ReplyAnswer {
+        Counted {
             answer: Answer::NoMessage,
-            table: t,
+            count,
         }
     }
 }
 
-// The table with the messages that outlive d moved together, each with what is left of its life.
-fn aged(t: ReplyTable, d: u16) -> ReplyTable
-    requires { ⌜ t .count ≤ 32 ⌝ }
-    ensures { λ r. ⌜ replyMessages r ≡ age d (replyMessages t) ⌝ }
+// The messages that outlive d move together, each with what is left of its life. Gives their number.
+fn age(
+    count: usize,
+    firsts: &mut [u16; 32],
+    lasts: &mut [u16; 32],
+    lives: &mut [u16; 32],
+    d: u16,
+) -> usize
+    requires { ⌜ count ≤ 32 ⌝ }
+    ensures { λ r. ⌜ replyMessages (replyTable r (now (firsts .exit)) (now (lasts .exit)) (now (lives .exit)))
+        ≡ age d (replyMessages (replyTable count (now (firsts .entry)) (now (lasts .entry)) (now (lives .entry)))) ⌝ }
 {
-    let count = t.count;
-    let mut firsts = t.firsts;
-    let mut lasts = t.lasts;
-    let mut lives = t.lives;
+    crate::lengths(firsts, lasts, lives);
     let mut kept = 0;
     let mut i = 0;
     while i < count {
@@ -138,27 +151,31 @@ fn aged(t: ReplyTable, d: u16) -> ReplyTable
             kept += 1;
         }
     }
-    ReplyTable {
-        count: kept,
-        firsts,
-        lasts,
-        lives,
-    }
+    kept
 }
 
-pub fn tick(l: Limits, t: ReplyTable, d: u16) -> ReplyAnswer
-    requires { ⌜ (soundLimits l ≡ true) × (soundReplyTable l t ≡ true) ⌝ }
-    ensures { λ r. ⌜ ReplyCall l t (timeQuestions d) (age d (replyMessages t)) r ⌝ }
+pub fn tick(
+    l: Limits,
+    count: usize,
+    firsts: &mut [u16; 32],
+    lasts: &mut [u16; 32],
+    lives: &mut [u16; 32],
+    d: u16,
+) -> Counted
+    requires { ⌜ (soundLimits l ≡ true) × (soundReplyTable l (replyTable count (now firsts) (now lasts) (now lives)) ≡ true) ⌝ }
+    ensures { λ r. ⌜ (let t = replyTable count (now (firsts .entry)) (now (lasts .entry)) (now (lives .entry)) in
+        ReplyCall l t (timeQuestions d) (age d (replyMessages t))
+        (record { answer = r .answer; table = replyTable (r .count) (now (firsts .exit)) (now (lasts .exit)) (now (lives .exit)) })) ⌝ }
 {
     if 1 <= d {
-        ReplyAnswer {
+        Counted {
             answer: Answer::Done,
-            table: aged(t, d),
+            count: age(count, firsts, lasts, lives, d),
         }
     } else {
-        ReplyAnswer {
+        Counted {
             answer: Answer::BadArgument,
-            table: t,
+            count,
         }
     }
 }
@@ -177,15 +194,22 @@ pub fn unread(answer: Answer) -> ReplyRead
     }
 }
 
-pub fn read(l: Limits, t: ReplyTable, p: usize) -> ReplyRead
-    requires { ⌜ (soundLimits l ≡ true) × (soundReplyTable l t ≡ true) ⌝ }
-    ensures { λ r. ⌜ ReplyReading t p (placeQuestions p (replyMessages t)) r ⌝ }
+pub fn read(
+    l: Limits,
+    count: usize,
+    firsts: &[u16; 32],
+    lasts: &[u16; 32],
+    lives: &[u16; 32],
+    p: usize,
+) -> ReplyRead
+    requires { ⌜ (soundLimits l ≡ true) × (soundReplyTable l (replyTable count (now firsts) (now lasts) (now lives)) ≡ true) ⌝ }
+    ensures { λ r. ⌜ (let t = replyTable count (now (firsts .entry)) (now (lasts .entry)) (now (lives .entry)) in
+        ReplyReading t p (placeQuestions p (replyMessages t)) r) ⌝ }
 {
-    let count = t.count;
     if p < count {
-        let first = crate::wide(t.firsts[p]);
-        let last = crate::wide(t.lasts[p]);
-        let life = t.lives[p];
+        let first = crate::wide(firsts[p]);
+        let last = crate::wide(lasts[p]);
+        let life = lives[p];
         ReplyRead {
             answer: Answer::Done,
             message: ReplyMessage { first, last, life },

@@ -12,3 +12,4 @@ pub mod Decoding
 pub mod Calls
 pub mod Rises
 pub mod Running
+pub mod Apart

@@ -58,6 +58,9 @@ oldTaken s p x = record { limits = s .limits; mat = s .mat; pad = s .pad; datas 
 abbrev pub newTaken : LinkState → ℕ → PadState → LinkState
 newTaken s p x = record { limits = s .limits; mat = s .mat; pad = x; datas = remove p (s .datas); replies = s .replies }
 
+abbrev pub taken : LinkState → ℕ → pad.Arrival → LinkState
+taken s p y = pick (y .old) (oldTaken s p (y .reply)) (newTaken s p (y .state))
+
 -- what an event does that passed its questions
 abbrev pub acted : List ℕ → List ℕ → LinkState → Event → Moved
 acted supply buffer s unknown = unmoved s buffer
@@ -69,16 +72,7 @@ acted supply buffer s send =
       buffer = buffer;
     }
 acted supply buffer s (resend k) = unmoved (sentOut s (mat.resending (s .limits) (s .mat) k)) buffer
-acted supply buffer s (arriveData p) =
-    unmoved
-    (record {
-      limits = s .limits;
-      mat = s .mat;
-      pad = arrivalAt s p .state;
-      datas = remove p (s .datas);
-      replies = pick (arrivalAt s p .old) (put (replyOut s (arrivalAt s p .reply)) (s .replies)) (s .replies);
-    })
-    buffer
+acted supply buffer s (arriveData p) = unmoved (taken s p (arrivalAt s p)) buffer
 acted supply buffer s reply =
     let x = pad.replying (s .limits) (s .pad) buffer in
     record {

@@ -2,6 +2,8 @@
 ghost use mathlib.Core.Path.{_≡_};
 ghost use Rattle.link.specs.View.{freshLink, soundLink, Opened, Stepped, Ran};
 
+mod lentlink;
+mod lentrun;
 mod matevents;
 mod padevents;
 pub mod soundlink;

@@ -1,166 +1,181 @@
-// Inner: called by soundlink. The events at the pad: data arrives, a reply for the run at wanted. The link passed question 4.
+// Inner: called by lentlink. The events at the pad: data arrives, a reply for the run at wanted. The link passed question 4.
 ghost use mathlib.Core.Path.{_≡_};
-ghost use mathlib.Core.Bool.{true};
+ghost use mathlib.Core.Bool.{Bool, true};
 ghost use mathlib.Core.List.{List, []};
-ghost use Prim.Native.Nat.{ℕ, _*_, _<_};
-ghost use lib.ListN.{length};
-ghost use Rattle.limits.specs.Questions.{firstNo, Called};
+ghost use Prim.Native.Nat.{ℕ, _*_, _<_, _≤_};
+ghost use Rattle.limits.specs.Limits.{soundLimits};
 ghost use Rattle.limits.specs.Events.{arriveData, reply};
-ghost use Rattle.limits.specs.Tables.{soundReply};
-ghost use Rattle.pad.specs.View.{padState, soundPad};
-ghost use Rattle.air.specs.Rules.{roomQuestions};
-ghost use Rattle.air.specs.Data.{dataMessages};
-ghost use Rattle.air.specs.Replies.{replyMessages};
-ghost use Rattle.link.specs.State.{noCounts, unmoved};
-ghost use Rattle.link.specs.Rules.{questions, oldTaken, newTaken};
-ghost use Rattle.link.specs.View.{linkState, soundLink, shown, Moves};
+ghost use Rattle.pad.specs.View.{padOf, soundPad};
+ghost use Rattle.air.specs.Data.{dataTable, soundDataTable};
+ghost use Rattle.air.specs.Replies.{replyTable, soundReplyTable};
+ghost use Rattle.link.specs.Lent.{arrays, OldTaken, LentMoves};
 use crate::Counts;
-use crate::Link;
-use crate::Progress;
-use crate::soundlink;
+use crate::lentlink;
+use crate::lentlink::Numbers;
+use crate::lentlink::Step;
 use air::replytable::ReplyMessage;
 use air::sounddata;
 use air::soundreplies;
+use limits::Limits;
 use limits::answer::Answer;
-use pad::Pad;
 use pad::soundpad;
 
-// An old row: the pad's reply is put, and message p leaves: 18.
-fn take_old(k: Link, p: usize, first: usize, last: usize) -> Progress
-    requires { ⌜ (soundLink k ≡ true) × (p < length (dataMessages (k .datas))) × (soundReply (k .limits) (record { first = first; last = last }) ≡ true) ⌝ }
-    ensures { λ r. ⌜ ((b : List ℕ) → Called (roomQuestions 18 (replyMessages (k .replies))) (r .answer) (shown r b)
-        (unmoved (oldTaken (linkState k) p (record { first = first; last = last })) b) (unmoved (linkState k) b) soundLink k (r .link)) ⌝ }
+// Message p is an old row: it is replied to and leaves the data table: 18.
+fn take_old(
+    l: Limits,
+    n: Numbers,
+    numbers: &mut [u16; 32],
+    datalives: &mut [u16; 32],
+    datacells: &mut [u16; 512],
+    firsts: &mut [u16; 32],
+    lasts: &mut [u16; 32],
+    replylives: &mut [u16; 32],
+    p: usize,
+    number: usize,
+) -> Step
+    requires { ⌜ (soundLimits l ≡ true) × (p < n .datas) × (number < 2 * l .window)
+        × (soundDataTable l (dataTable (n .datas) (now numbers) (now datalives) (now datacells)) ≡ true)
+        × (soundReplyTable l (replyTable (n .replies) (now firsts) (now lasts) (now replylives)) ≡ true) ⌝ }
+    ensures { λ r. ⌜ ((marks held : List Bool) (mattimers matcells padtimers padcells b : List ℕ)
+        → OldTaken l n
+        (arrays marks mattimers matcells held padtimers padcells (now (numbers .entry)) (now (datalives .entry)) (now (datacells .entry)) (now (firsts .entry)) (now (lasts .entry)) (now (replylives .entry)))
+        (arrays marks mattimers matcells held padtimers padcells (now (numbers .exit)) (now (datalives .exit)) (now (datacells .exit)) (now (firsts .exit)) (now (lasts .exit)) (now (replylives .exit)))
+        b p (record { first = number; last = number }) r) ⌝ }
 {
-    let l = k.limits;
     let message = ReplyMessage {
-        first,
-        last,
+        first: number,
+        last: number,
         life: l.replylife,
     };
-    let before = k.replies;
-    let put = soundreplies::put(l, before, message);
+    let put = soundreplies::put(l, n.replies, firsts, lasts, replylives, message);
     let answer = put.answer;
     let Answer::Done = answer else {
-        return soundlink::stays(k, answer);
+        return lentlink::stays(n, answer);
     };
-    let all = k.datas;
-    let left = sounddata::remove(l, all, p);
-    let mat = k.mat;
-    let pad = k.pad;
-    let datas = left.table;
-    let replies = put.table;
-    let after = Link {
-        limits: l,
-        mat,
-        pad,
-        datas,
-        replies,
+    let left = sounddata::remove(l, n.datas, numbers, datalives, datacells, p);
+    let after = Numbers {
+        oldest: n.oldest,
+        next: n.next,
+        wanted: n.wanted,
+        datas: left.count,
+        replies: put.count,
     };
-    soundlink::stays(after, answer)
-}
-
-// A row of the window: the pad holds it, and message p leaves.
-fn take_new(k: Link, p: usize, pad: Pad) -> Progress
-    requires { ⌜ (soundLink k ≡ true) × (p < length (dataMessages (k .datas))) × (soundPad (k .limits) pad ≡ true) ⌝ }
-    ensures { λ r. ⌜ (r .answer ≡ Answer.Done) × (soundLink (r .link) ≡ true) × (r .counts ≡ noCounts)
-        × (linkState (r .link) ≡ newTaken (linkState k) p (padState (k .limits .window) pad)) ⌝ }
-{
-    let l = k.limits;
-    let all = k.datas;
-    let left = sounddata::remove(l, all, p);
-    let mat = k.mat;
-    let datas = left.table;
-    let replies = k.replies;
-    let after = Link {
-        limits: l,
-        mat,
-        pad,
-        datas,
-        replies,
-    };
-    soundlink::stays(after, Answer::Done)
+    lentlink::stays(after, answer)
 }
 
 // Message p arrives at the pad and leaves the data table: 17, and for an old row 18.
-pub fn arrive_data(k: Link, p: usize) -> Progress
-    requires { ⌜ soundLink k ≡ true ⌝ }
-    ensures { λ r. ⌜ ((supply b : List ℕ) → Moves k supply b b (arriveData p) r) ⌝ }
+pub fn arrive_data(
+    l: Limits,
+    n: Numbers,
+    held: &mut [bool; 32],
+    padtimers: &mut [u16; 32],
+    padcells: &mut [u16; 512],
+    numbers: &mut [u16; 32],
+    datalives: &mut [u16; 32],
+    datacells: &mut [u16; 512],
+    firsts: &mut [u16; 32],
+    lasts: &mut [u16; 32],
+    replylives: &mut [u16; 32],
+    p: usize,
+) -> Step
+    requires { ⌜ (soundLimits l ≡ true) × (n .wanted < 2 * l .window)
+        × (soundDataTable l (dataTable (n .datas) (now numbers) (now datalives) (now datacells)) ≡ true)
+        × (soundReplyTable l (replyTable (n .replies) (now firsts) (now lasts) (now replylives)) ≡ true) ⌝ }
+    ensures { λ r. ⌜ ((marks : List Bool) (mattimers matcells supply b : List ℕ)
+        → LentMoves l n
+        (arrays marks mattimers matcells (now (held .entry)) (now (padtimers .entry)) (now (padcells .entry)) (now (numbers .entry)) (now (datalives .entry)) (now (datacells .entry)) (now (firsts .entry)) (now (lasts .entry)) (now (replylives .entry)))
+        (arrays marks mattimers matcells (now (held .exit)) (now (padtimers .exit)) (now (padcells .exit)) (now (numbers .exit)) (now (datalives .exit)) (now (datacells .exit)) (now (firsts .exit)) (now (lasts .exit)) (now (replylives .exit)))
+        supply b b (arriveData p) r) ⌝ }
 {
-    let l = k.limits;
-    let datas = k.datas;
-    let found = sounddata::read(l, datas, p);
+    let found = sounddata::read(l, n.datas, numbers, datalives, datacells, p);
     let answer = found.answer;
     let Answer::Done = answer else {
-        return soundlink::stays(k, answer);
+        return lentlink::stays(n, answer);
     };
     let message = found.message;
-    let row = message.row;
-    let before = k.pad;
-    let a = soundpad::arrive(l, before, message.number, row);
-    if a.old {
-        take_old(k, p, a.first, a.last)
+    let number = message.number;
+    if soundpad::in_window(l, n.wanted, number) {
+        let row = message.row;
+        soundpad::hold(l, number, held, padtimers, padcells, row);
+        let left = sounddata::remove(l, n.datas, numbers, datalives, datacells, p);
+        let after = Numbers {
+            oldest: n.oldest,
+            next: n.next,
+            wanted: n.wanted,
+            datas: left.count,
+            replies: n.replies,
+        };
+        lentlink::stays(after, answer)
     } else {
-        let pad = a.pad;
-        take_new(k, p, pad)
-    }
-}
-
-// The run at wanted, which is known to be there and to find room, is recorded and replied to.
-fn record_run(k: Link, record: &mut [u16]) -> Progress
-    requires { ⌜ (soundLink k ≡ true) × (firstNo (questions [] (length (now «record»)) (linkState k) reply) ≡ 0) ⌝ }
-    ensures { λ r. ⌜ Moves k [] (now («record» .entry)) (now («record» .exit)) reply r ⌝ }
-{
-    let l = k.limits;
-    let waiting = k.pad;
-    let run = soundpad::reply(l, waiting, record);
-    let message = ReplyMessage {
-        first: run.first,
-        last: run.last,
-        life: l.replylife,
-    };
-    let before = k.replies;
-    let put = soundreplies::put(l, before, message);
-    let mat = k.mat;
-    let pad = run.pad;
-    let datas = k.datas;
-    let replies = put.table;
-    Progress {
-        answer: Answer::Done,
-        link: Link {
-            limits: l,
-            mat,
-            pad,
-            datas,
-            replies,
-        },
-        counts: Counts {
-            sent: 0,
-            acknowledged: 0,
-            recorded: run.count,
-        },
+        take_old(
+            l,
+            n,
+            numbers,
+            datalives,
+            datacells,
+            firsts,
+            lasts,
+            replylives,
+            p,
+            number,
+        )
     }
 }
 
 // The run of rows at wanted is recorded and replied to: 20, 21, 18.
-pub fn reply(k: Link, record: &mut [u16]) -> Progress
-    requires { ⌜ soundLink k ≡ true ⌝ }
-    ensures { λ r. ⌜ Moves k [] (now («record» .entry)) (now («record» .exit)) reply r ⌝ }
+pub fn reply(
+    l: Limits,
+    n: Numbers,
+    held: &mut [bool; 32],
+    padtimers: &[u16; 32],
+    padcells: &[u16; 512],
+    firsts: &mut [u16; 32],
+    lasts: &mut [u16; 32],
+    replylives: &mut [u16; 32],
+    record: &mut [u16],
+) -> Step
+    requires { ⌜ (soundLimits l ≡ true) × (soundPad l (padOf (n .wanted) (now held) (now padtimers) (now padcells)) ≡ true)
+        × (soundReplyTable l (replyTable (n .replies) (now firsts) (now lasts) (now replylives)) ≡ true) ⌝ }
+    ensures { λ r. ⌜ ((marks : List Bool) (mattimers matcells numbers datalives datacells : List ℕ)
+        → LentMoves l n
+        (arrays marks mattimers matcells (now (held .entry)) (now (padtimers .entry)) (now (padcells .entry)) numbers datalives datacells (now (firsts .entry)) (now (lasts .entry)) (now (replylives .entry)))
+        (arrays marks mattimers matcells (now (held .exit)) (now (padtimers .entry)) (now (padcells .entry)) numbers datalives datacells (now (firsts .exit)) (now (lasts .exit)) (now (replylives .exit)))
+        [] (now («record» .entry)) (now («record» .exit)) reply r) ⌝ }
 {
-    let l = k.limits;
-    let pad = k.pad;
-    let replies = k.replies;
-    let run = soundpad::run_length(l, pad);
+    let run = soundpad::run_length(l, n.wanted, held, padtimers);
     let answer = run.answer;
     let Answer::Done = answer else {
-        return soundlink::stays(k, answer);
+        return lentlink::stays(n, answer);
     };
-    if 16 * run.count <= record.len() {
-        if soundreplies::room(replies) {
-            record_run(k, record)
+    let count = run.count;
+    if 16 * count <= record.len() {
+        if soundreplies::room(n.replies) {
+            let passed = soundpad::record_run(l, n.wanted, held, padcells, count, record);
+            let message = ReplyMessage {
+                first: n.wanted,
+                last: passed.last,
+                life: l.replylife,
+            };
+            let put = soundreplies::put(l, n.replies, firsts, lasts, replylives, message);
+            Step {
+                answer,
+                numbers: Numbers {
+                    oldest: n.oldest,
+                    next: n.next,
+                    wanted: passed.wanted,
+                    datas: n.datas,
+                    replies: put.count,
+                },
+                counts: Counts {
+                    sent: 0,
+                    acknowledged: 0,
+                    recorded: count,
+                },
+            }
         } else {
-            soundlink::stays(k, Answer::ReplyTableFull)
+            lentlink::stays(n, Answer::ReplyTableFull)
         }
     } else {
-        soundlink::stays(k, Answer::RecordFull)
+        lentlink::stays(n, Answer::RecordFull)
     }
 }

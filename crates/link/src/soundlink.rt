@@ -1,28 +1,33 @@
-// Inner: called by the link's public calls. Events and runs of a link that passed question 4.
+// Inner: called by the link's public calls. An event and a run of a link that passed question 4. The link is taken apart once, so
+// that its arrays can be lent and change in place, and put together again at the end.
 ghost use mathlib.Core.Path.{_≡_};
 ghost use mathlib.Core.Bool.{true, _&&_};
-ghost use mathlib.Core.List.{List};
-ghost use Prim.Native.Nat.{ℕ, _+_, _*_, _/_, _%_, _^_, _<_, _≤_};
+ghost use Prim.Native.Nat.{_/_, _%_, _≤_};
 ghost use lib.ListN.{length};
 ghost use Rattle.limits.specs.Limits.{soundLimits};
-ghost use Rattle.limits.specs.Events.{event, events, send, resend, reply, loseData, loseReply, tick};
+ghost use Rattle.limits.specs.Events.{event};
 ghost use Rattle.mat.specs.View.{soundMat};
 ghost use Rattle.pad.specs.View.{soundPad};
 ghost use Rattle.air.specs.Data.{soundDataTable};
 ghost use Rattle.air.specs.Replies.{soundReplyTable};
-ghost use Rattle.link.specs.State.{noCounts, added};
-ghost use Rattle.link.specs.Runs.{answers};
+ghost use Rattle.link.specs.State.{noCounts};
 ghost use Rattle.link.specs.View.{soundLink, shown, Moves, running};
+ghost use Rattle.link.specs.Lent.{arrays, numbersOf, linkOf};
 use crate::Counts;
 use crate::Link;
 use crate::Progress;
-use crate::matevents;
-use crate::padevents;
+use crate::lentlink;
+use crate::lentlink::Numbers;
+use crate::lentrun;
+use air::datatable::DataTable;
+use air::replytable::ReplyTable;
 use air::sounddata;
 use air::soundreplies;
 use limits::Limits;
 use limits::answer::Answer;
+use mat::Mat;
 use mat::soundmat;
+use pad::Pad;
 use pad::soundpad;
 
 pub fn parts_sound(l: Limits, k: Link) -> bool
@@ -53,78 +58,66 @@ pub fn stays(k: Link, answer: Answer) -> Progress
     }
 }
 
-// Message p leaves the data table: 17.
-fn lose_data(k: Link, p: usize) -> Progress
-    requires { ⌜ soundLink k ≡ true ⌝ }
-    ensures { λ r. ⌜ ((supply b : List ℕ) → Moves k supply b b (loseData p) r) ⌝ }
+// The numbers of a link.
+fn numbers_of(k: Link) -> Numbers
+    ensures { λ r. ⌜ r ≡ numbersOf k ⌝ }
 {
-    let l = k.limits;
-    let all = k.datas;
-    let left = sounddata::remove(l, all, p);
-    let answer = left.answer;
-    let mat = k.mat;
-    let pad = k.pad;
-    let datas = left.table;
-    let replies = k.replies;
-    let after = Link {
-        limits: l,
-        mat,
-        pad,
-        datas,
-        replies,
-    };
-    stays(after, answer)
+    Numbers {
+        oldest: k.mat.oldest,
+        next: k.mat.next,
+        wanted: k.pad.wanted,
+        datas: k.datas.count,
+        replies: k.replies.count,
+    }
 }
 
-// Message p leaves the reply table: 17.
-fn lose_reply(k: Link, p: usize) -> Progress
-    requires { ⌜ soundLink k ≡ true ⌝ }
-    ensures { λ r. ⌜ ((supply b : List ℕ) → Moves k supply b b (loseReply p) r) ⌝ }
+// The link of its numbers and its arrays.
+fn joined(
+    l: Limits,
+    n: Numbers,
+    marks: [bool; 32],
+    mattimers: [u16; 32],
+    matcells: [u16; 512],
+    held: [bool; 32],
+    padtimers: [u16; 32],
+    padcells: [u16; 512],
+    numbers: [u16; 32],
+    datalives: [u16; 32],
+    datacells: [u16; 512],
+    firsts: [u16; 32],
+    lasts: [u16; 32],
+    replylives: [u16; 32],
+) -> Link
+    ensures { λ r. ⌜ r ≡ linkOf l n (arrays marks mattimers matcells held padtimers padcells numbers datalives datacells firsts lasts replylives) ⌝ }
 {
-    let l = k.limits;
-    let all = k.replies;
-    let left = soundreplies::remove(l, all, p);
-    let answer = left.answer;
-    let mat = k.mat;
-    let pad = k.pad;
-    let datas = k.datas;
-    let replies = left.table;
-    let after = Link {
+    Link {
         limits: l,
-        mat,
-        pad,
-        datas,
-        replies,
-    };
-    stays(after, answer)
-}
-
-// Time passes by d ticks.
-fn tick(k: Link, d: u16) -> Progress
-    requires { ⌜ (soundLink k ≡ true) × (1 ≤ d) ⌝ }
-    ensures { λ r. ⌜ ((supply b : List ℕ) → Moves k supply b b (tick d) r) ⌝ }
-{
-    let l = k.limits;
-    let m = k.mat;
-    let p = k.pad;
-    let ds = k.datas;
-    let rs = k.replies;
-    let m = soundmat::tick(l, m, d);
-    let p = soundpad::tick(l, p, d);
-    let ds = sounddata::tick(l, ds, d);
-    let rs = soundreplies::tick(l, rs, d);
-    let mat = m.mat;
-    let pad = p.pad;
-    let datas = ds.table;
-    let replies = rs.table;
-    let after = Link {
-        limits: l,
-        mat,
-        pad,
-        datas,
-        replies,
-    };
-    stays(after, Answer::Done)
+        mat: Mat {
+            oldest: n.oldest,
+            next: n.next,
+            marks,
+            timers: mattimers,
+            cells: matcells,
+        },
+        pad: Pad {
+            wanted: n.wanted,
+            held,
+            timers: padtimers,
+            cells: padcells,
+        },
+        datas: DataTable {
+            count: n.datas,
+            numbers,
+            lives: datalives,
+            cells: datacells,
+        },
+        replies: ReplyTable {
+            count: n.replies,
+            firsts,
+            lasts,
+            lives: replylives,
+        },
+    }
 }
 
 // An event of two bytes: 8, 9, then the questions of its kind.
@@ -132,43 +125,67 @@ pub fn event(k: Link, kind: u8, argument: u8, supply: &[u16], record: &mut [u16]
     requires { ⌜ soundLink k ≡ true ⌝ }
     ensures { λ r. ⌜ Moves k (now (supply .entry)) (now («record» .entry)) (now («record» .exit)) (event kind argument) r ⌝ }
 {
-    match kind {
-        1 => if argument == 0 {
-            matevents::send(k, supply)
-        } else {
-            stays(k, Answer::BadArgument)
-        },
-        2 => matevents::resend(k, argument as usize),
-        3 => padevents::arrive_data(k, argument as usize),
-        4 => if argument == 0 {
-            padevents::reply(k, record)
-        } else {
-            stays(k, Answer::BadArgument)
-        },
-        5 => matevents::arrive_reply(k, argument as usize),
-        6 => lose_data(k, argument as usize),
-        7 => lose_reply(k, argument as usize),
-        8 => if 1 <= argument {
-            tick(k, argument as u16)
-        } else {
-            stays(k, Answer::BadArgument)
-        },
-        _ => stays(k, Answer::UnknownKind),
+    let l = k.limits;
+    let n = numbers_of(k);
+    let mut marks = k.mat.marks;
+    let mut mattimers = k.mat.timers;
+    let mut matcells = k.mat.cells;
+    let mut held = k.pad.held;
+    let mut padtimers = k.pad.timers;
+    let mut padcells = k.pad.cells;
+    let mut numbers = k.datas.numbers;
+    let mut datalives = k.datas.lives;
+    let mut datacells = k.datas.cells;
+    let mut firsts = k.replies.firsts;
+    let mut lasts = k.replies.lasts;
+    let mut replylives = k.replies.lives;
+    let s = lentlink::event(
+        l,
+        n,
+        &mut marks,
+        &mut mattimers,
+        &mut matcells,
+        &mut held,
+        &mut padtimers,
+        &mut padcells,
+        &mut numbers,
+        &mut datalives,
+        &mut datacells,
+        &mut firsts,
+        &mut lasts,
+        &mut replylives,
+        kind,
+        argument,
+        supply,
+        record,
+    );
+    let answer = s.answer;
+    let n = s.numbers;
+    let counts = s.counts;
+    let link = joined(
+        l,
+        n,
+        marks,
+        mattimers,
+        matcells,
+        held,
+        padtimers,
+        padcells,
+        numbers,
+        datalives,
+        datacells,
+        firsts,
+        lasts,
+        replylives,
+    );
+    Progress {
+        answer,
+        link,
+        counts,
     }
 }
 
-fn sum(a: Counts, b: Counts) -> Counts
-    requires { ⌜ (a .sent + b .sent < 2 ^ 64) × (a .acknowledged + b .acknowledged < 2 ^ 64) × (a .recorded + b .recorded < 2 ^ 64) ⌝ }
-    ensures { λ r. ⌜ r ≡ added a b ⌝ }
-{
-    Counts {
-        sent: a.sent + b.sent,
-        acknowledged: a.acknowledged + b.acknowledged,
-        recorded: a.recorded + b.recorded,
-    }
-}
-
-// Every event in order, each on the unsent rest of the supply and the unwritten rest of the record.
+// Every event in order.
 pub fn run(
     k: Link,
     events: &[u8],
@@ -181,36 +198,61 @@ pub fn run(
         × (record { moved = shown r (now («record» .exit)); answers = now (answers .exit) }
         ≡ running k (now (events .entry)) (now (supply .entry)) (now («record» .entry)) (now (answers .entry))) ⌝ }
 {
-    let count = events.len() / 2;
-    let mut link = k;
-    let mut counts = Counts {
-        sent: 0,
-        acknowledged: 0,
-        recorded: 0,
-    };
-    let mut i = 0;
-    while i < count {
-        let sent = 16 * counts.sent;
-        let recorded = 16 * counts.recorded;
-        let s = event(
-            link,
-            events[2 * i],
-            events[2 * i + 1],
-            &supply[sent..],
-            &mut record[recorded..],
-        );
-        let answer = s.answer;
-        answers[i] = limits::answer::number(answer);
-        i += 1;
-        let Answer::Done = answer else {
-            continue;
-        };
-        link = s.link;
-        let more = s.counts;
-        counts = sum(counts, more);
-    }
+    let l = k.limits;
+    let n = numbers_of(k);
+    let mut marks = k.mat.marks;
+    let mut mattimers = k.mat.timers;
+    let mut matcells = k.mat.cells;
+    let mut held = k.pad.held;
+    let mut padtimers = k.pad.timers;
+    let mut padcells = k.pad.cells;
+    let mut numbers = k.datas.numbers;
+    let mut datalives = k.datas.lives;
+    let mut datacells = k.datas.cells;
+    let mut firsts = k.replies.firsts;
+    let mut lasts = k.replies.lasts;
+    let mut replylives = k.replies.lives;
+    let s = lentrun::run(
+        l,
+        n,
+        &mut marks,
+        &mut mattimers,
+        &mut matcells,
+        &mut held,
+        &mut padtimers,
+        &mut padcells,
+        &mut numbers,
+        &mut datalives,
+        &mut datacells,
+        &mut firsts,
+        &mut lasts,
+        &mut replylives,
+        events,
+        supply,
+        record,
+        answers,
+    );
+    let answer = s.answer;
+    let n = s.numbers;
+    let counts = s.counts;
+    let link = joined(
+        l,
+        n,
+        marks,
+        mattimers,
+        matcells,
+        held,
+        padtimers,
+        padcells,
+        numbers,
+        datalives,
+        datacells,
+        firsts,
+        lasts,
+        replylives,
+    );
     Progress {
-        answer: Answer::Done,
+        answer,
         link,
         counts,
     }

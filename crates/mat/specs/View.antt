@@ -18,6 +18,10 @@ use Rattle.mat.specs.declared.Ticked.{Ticked}
 use Rattle.mat.specs.Window.{MatState}
 use Rattle.mat.specs.Rules.{Sending, notSending, Acknowledging, notAcknowledging}
 
+-- the mat of its two numbers and its three arrays
+abbrev pub matOf : ℕ → ℕ → List Bool → List ℕ → List ℕ → Mat
+matOf oldest next marks timers cells = record { oldest = oldest; next = next; marks = marks; timers = timers; cells = cells }
+
 abbrev pub outstandingOf : ℕ → Mat → ℕ
 outstandingOf w m = distance (2 * w) (m .oldest) (m .next)
 

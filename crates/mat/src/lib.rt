@@ -2,6 +2,7 @@
 ghost use mathlib.Core.Path.{_≡_};
 ghost use mathlib.Core.Bool.{_&&_};
 ghost use mathlib.Core.List.{_∷_};
+ghost use lib.ListN.{replicate};
 ghost use Rattle.limits.specs.Questions.{ask, timeQuestions};
 ghost use Rattle.limits.specs.Limits.{soundLimits};
 ghost use Rattle.limits.specs.Tables.{soundReply};
@@ -78,6 +79,18 @@ fn sound_with(l: Limits, m: Mat, first: usize, last: usize) -> bool
         && (soundmat::mat_sound(l, m) && soundmat::message_sound(l, first, last))
 }
 
+// The mat as it is, with a message of zeros.
+fn not_sent(m: Mat, answer: Answer) -> Sent
+    ensures { λ r. ⌜ (r .answer ≡ answer) × (r .mat ≡ m) × (r .number ≡ 0) × (r .row ≡ replicate 16 0) ⌝ }
+{
+    Sent {
+        answer,
+        mat: m,
+        number: 0,
+        row: [0; 16],
+    }
+}
+
 // The first row of the supply is sent: 4, 10, 11, 12.
 pub fn send(l: Limits, m: Mat, supply: &[u16]) -> Sent
     ensures { λ r. ⌜ SendCall l m
@@ -85,9 +98,32 @@ pub fn send(l: Limits, m: Mat, supply: &[u16]) -> Sent
         (sending l (matState (l .window) m) (now (supply .entry))) r ⌝ }
 {
     if sound(l, m) {
-        soundmat::send(l, m, supply)
+        let found = soundmat::next_row(l, m.oldest, m.next, supply);
+        let answer = found.answer;
+        let Answer::Done = answer else {
+            return not_sent(m, answer);
+        };
+        let row = found.row;
+        let number = m.next;
+        let marks = m.marks;
+        let mut timers = m.timers;
+        let mut cells = m.cells;
+        let next = soundmat::keep(l, number, &mut timers, &mut cells, row);
+        let mat = Mat {
+            oldest: m.oldest,
+            next,
+            marks,
+            timers,
+            cells,
+        };
+        Sent {
+            answer,
+            mat,
+            number,
+            row,
+        }
     } else {
-        soundmat::not_sent(m, Answer::Unsound)
+        not_sent(m, Answer::Unsound)
     }
 }
 
@@ -98,9 +134,31 @@ pub fn resend(l: Limits, m: Mat, k: usize) -> Sent
         (resending l (matState (l .window) m) k) r ⌝ }
 {
     if sound(l, m) {
-        soundmat::resend(l, m, k)
+        let marks = m.marks;
+        let mut timers = m.timers;
+        let cells = m.cells;
+        let found = soundmat::due(l, m.oldest, m.next, &marks, &timers, k);
+        let answer = found.answer;
+        let Answer::Done = answer else {
+            return not_sent(m, answer);
+        };
+        let number = found.number;
+        let row = soundmat::again(l, number, &mut timers, &cells);
+        let mat = Mat {
+            oldest: m.oldest,
+            next: m.next,
+            marks,
+            timers,
+            cells,
+        };
+        Sent {
+            answer,
+            mat,
+            number,
+            row,
+        }
     } else {
-        soundmat::not_sent(m, Answer::Unsound)
+        not_sent(m, Answer::Unsound)
     }
 }
 
@@ -112,7 +170,15 @@ pub fn acknowledge(l: Limits, m: Mat, first: usize, last: usize) -> Acknowledged
         (acknowledging l (matState (l .window) m) (record { first = first; last = last })) r ⌝ }
 {
     if sound_with(l, m, first, last) {
-        soundmat::acknowledge(l, m, first, last)
+        let mut mat = m;
+        let a = soundmat::acknowledge(l, m.oldest, m.next, &mut mat.marks, first, last);
+        mat.oldest = a.oldest;
+        let answer = a.answer;
+        Acknowledged {
+            answer,
+            mat,
+            passed: a.passed,
+        }
     } else {
         Acknowledged {
             answer: Answer::Unsound,
@@ -127,7 +193,19 @@ pub fn tick(l: Limits, m: Mat, d: u16) -> Ticked
     ensures { λ r. ⌜ TickCall l m (ask 4 (soundLimits l && soundMat l m) ∷ timeQuestions d) (ticked d (matState (l .window) m)) r ⌝ }
 {
     if sound(l, m) {
-        soundmat::tick(l, m, d)
+        if 1 <= d {
+            let mut mat = m;
+            soundmat::tick(l, &mut mat.timers, d);
+            Ticked {
+                answer: Answer::Done,
+                mat,
+            }
+        } else {
+            Ticked {
+                answer: Answer::BadArgument,
+                mat: m,
+            }
+        }
     } else {
         Ticked {
             answer: Answer::Unsound,

@@ -1,14 +1,16 @@
-// Inner: called by the mat's public calls and by the link. The mat's calls where question 4 has been put and passed.
+// Inner: called by the mat's public calls and by the link. The mat's events where question 4 has been put and passed. Each takes
+// the numbers and arrays that it needs; arrays are lent and change in place.
 ghost use mathlib.Core.Path.{_≡_};
 ghost use mathlib.Core.Bool.{Bool, true, false, not, _&&_};
-ghost use Prim.Native.Nat.{_+_, _-_, _*_, _%_, _<_, _≤_};
+ghost use mathlib.Core.List.{List};
+ghost use Prim.Native.Nat.{ℕ, _+_, _-_, _*_, _%_, _<_, _≤_};
 ghost use lib.Dec.{leb, ltb};
-ghost use lib.ListN.{getD, replicate};
+ghost use lib.ListN.{length, getD, set, take, replicate};
 ghost use Rattle.limits.specs.Lists.{tab, all, leading};
 ghost use Rattle.limits.specs.Cells.{rowAt, legalRow};
-ghost use Rattle.limits.specs.Questions.{timeQuestions};
+ghost use Rattle.limits.specs.Questions.{Answers};
 ghost use Rattle.limits.specs.Limits.{soundLimits};
-ghost use Rattle.limits.specs.Ring.{distance, step, place};
+ghost use Rattle.limits.specs.Ring.{distance, step};
 ghost use Rattle.limits.specs.Tables.{soundReply};
 ghost use Rattle.mat.specs.Rules.{
   sendQuestions,
@@ -21,6 +23,7 @@ ghost use Rattle.mat.specs.Rules.{
   ticked,
 };
 ghost use Rattle.mat.specs.View.{
+  matOf,
   outstandingOf,
   markAt,
   cellsAt,
@@ -28,16 +31,9 @@ ghost use Rattle.mat.specs.View.{
   soundNumbers,
   soundMarks,
   soundMat,
-  shownSending,
-  shownAcknowledging,
-  SendCall,
   AcknowledgeCall,
-  TickCall,
 };
-use crate::Acknowledged;
 use crate::Mat;
-use crate::Sent;
-use crate::Ticked;
 use limits::Limits;
 use limits::answer::Answer;
 use limits::ring;
@@ -133,98 +129,150 @@ pub fn message_sound(l: Limits, first: usize, last: usize) -> bool
     first < 2 * w && (last < 2 * w && ring::gap(2 * w, first, last) + 1 <= w)
 }
 
-// The mat as it is, with a message of zeros.
-pub fn not_sent(m: Mat, answer: Answer) -> Sent
-    ensures { λ r. ⌜ (r .answer ≡ answer) × (r .mat ≡ m) × (r .number ≡ 0) × (r .row ≡ replicate 16 0) ⌝ }
+// What a send finds: the answer, and the row to send or zeros.
+pub struct NextRow {
+    pub answer: Answer,
+    pub row: [u16; 16],
+}
+
+// What a resend finds: the answer, and the number of the row to send again or 0.
+pub struct DueNumber {
+    pub answer: Answer,
+    pub number: usize,
+}
+
+// What an arriving reply gives: the answer, oldest, and by how many rows it rose.
+pub struct Passed {
+    pub answer: Answer,
+    pub oldest: usize,
+    pub passed: usize,
+}
+
+fn no_row(answer: Answer) -> NextRow
+    ensures { λ r. ⌜ (r .answer ≡ answer) × (r .row ≡ replicate 16 0) ⌝ }
 {
-    Sent {
+    NextRow {
         answer,
-        mat: m,
-        number: 0,
         row: [0; 16],
     }
 }
 
-// The row is kept as row next.
-fn kept(l: Limits, m: Mat, row: [u16; 16]) -> Sent
-    requires { ⌜ (soundLimits l ≡ true) × (soundMat l m ≡ true) × (outstandingOf (l .window) m < l .window) × (legalRow row ≡ true) ⌝ }
-    ensures { λ r. ⌜ (r .answer ≡ Answer.Done) × (soundMat l (r .mat) ≡ true) × (shownSending l r ≡ sending l (matState (l .window) m) row) ⌝ }
+// The first row of the supply, where it may be sent: 10, 11, 12.
+pub fn next_row(l: Limits, oldest: usize, next: usize, supply: &[u16]) -> NextRow
+    requires { ⌜ (soundLimits l ≡ true) × (oldest < 2 * l .window) × (next < 2 * l .window) ⌝ }
+    ensures { λ r. ⌜ ((marks : List Bool) (timers cells : List ℕ)
+        → Answers (sendQuestions l (matState (l .window) (matOf oldest next marks timers cells)) (now (supply .entry))) (r .answer) (r .row)
+        (take 16 (now (supply .entry))) (replicate 16 0)) ⌝ }
 {
     let w = l.window;
-    let number = m.next;
-    let at = ring::slot(w, number);
-    let mut after = m;
-    after.timers[at] = l.resendwait;
-    rows::store(&mut after.cells, at, row);
-    after.next = ring::forward(2 * w, number, 1);
-    Sent {
-        answer: Answer::Done,
-        mat: after,
-        number,
-        row,
-    }
-}
-
-pub fn send(l: Limits, m: Mat, supply: &[u16]) -> Sent
-    requires { ⌜ (soundLimits l ≡ true) × (soundMat l m ≡ true) ⌝ }
-    ensures { λ r. ⌜ SendCall l m (sendQuestions l (matState (l .window) m) (now (supply .entry)))
-        (sending l (matState (l .window) m) (now (supply .entry))) r ⌝ }
-{
-    let w = l.window;
-    if ring::gap(2 * w, m.oldest, m.next) < w {
+    if ring::gap(2 * w, oldest, next) < w {
         if 16 <= supply.len() {
             let row = rows::read(supply, 0);
             if rows::legal_row(row) {
-                kept(l, m, row)
+                NextRow {
+                    answer: Answer::Done,
+                    row,
+                }
             } else {
-                not_sent(m, Answer::IllegalCell)
+                no_row(Answer::IllegalCell)
             }
         } else {
-            not_sent(m, Answer::NoRowLeft)
+            no_row(Answer::NoRowLeft)
         }
     } else {
-        not_sent(m, Answer::WindowFull)
+        no_row(Answer::WindowFull)
     }
 }
 
-// The row of number oldest + k, at place `at`, is sent again.
-fn sent_again(l: Limits, m: Mat, k: usize, number: usize, at: usize) -> Sent
-    requires { ⌜ (soundLimits l ≡ true) × (soundMat l m ≡ true) × (k < outstandingOf (l .window) m)
-        × (number ≡ step (2 * l .window) (m .oldest) k) × (at ≡ place (l .window) number) ⌝ }
-    ensures { λ r. ⌜ (r .answer ≡ Answer.Done) × (soundMat l (r .mat) ≡ true) × (shownSending l r ≡ resending l (matState (l .window) m) k) ⌝ }
+// Sets the timer at place `at`. The timers come as a slice, since an array lent as a slice tells its length to the proof and one
+// lent as an array does not.
+fn set_timer(timers: &mut [u16], at: usize, wait: u16)
+    requires { ⌜ at < length (now timers) ⌝ }
+    ensures { λ _. ⌜ now (timers .exit) ≡ set (now (timers .entry)) at wait ⌝ }
 {
-    let row = rows::load(&m.cells, at);
-    let mut again = m;
-    again.timers[at] = l.resendwait;
-    Sent {
-        answer: Answer::Done,
-        mat: again,
-        number,
-        row,
-    }
+    timers[at] = wait;
 }
 
-pub fn resend(l: Limits, m: Mat, k: usize) -> Sent
-    requires { ⌜ (soundLimits l ≡ true) × (soundMat l m ≡ true) ⌝ }
-    ensures { λ r. ⌜ SendCall l m (resendQuestions l (matState (l .window) m) k) (resending l (matState (l .window) m) k) r ⌝ }
+// The row is kept as row next, and its timer is set. Gives the next number.
+pub fn keep(
+    l: Limits,
+    next: usize,
+    timers: &mut [u16; 32],
+    cells: &mut [u16; 512],
+    row: [u16; 16],
+) -> usize
+    requires { ⌜ (soundLimits l ≡ true) × (next < 2 * l .window) ⌝ }
+    ensures { λ r. ⌜ ((oldest : ℕ) (marks : List Bool)
+        → soundMat l (matOf oldest next marks (now (timers .entry)) (now (cells .entry))) ≡ true
+        → outstandingOf (l .window) (matOf oldest next marks (now (timers .entry)) (now (cells .entry))) < l .window
+        → legalRow row ≡ true
+        → (soundMat l (matOf oldest r marks (now (timers .exit)) (now (cells .exit))) ≡ true)
+        × (record { state = matState (l .window) (matOf oldest r marks (now (timers .exit)) (now (cells .exit))); message = record { number = next; row = row } }
+        ≡ sending l (matState (l .window) (matOf oldest next marks (now (timers .entry)) (now (cells .entry)))) row)) ⌝ }
 {
     let w = l.window;
-    let oldest = m.oldest;
-    if k < ring::gap(2 * w, oldest, m.next) {
+    let at = ring::slot(w, next);
+    let wait = l.resendwait;
+    set_timer(timers, at, wait);
+    rows::write(cells, 16 * at, row);
+    ring::forward(2 * w, next, 1)
+}
+
+fn not_due(answer: Answer) -> DueNumber
+    ensures { λ r. ⌜ (r .answer ≡ answer) × (r .number ≡ 0) ⌝ }
+{
+    DueNumber { answer, number: 0 }
+}
+
+// The number oldest + k, where its row may be sent again: 14, 15, 16.
+pub fn due(
+    l: Limits,
+    oldest: usize,
+    next: usize,
+    marks: &[bool; 32],
+    timers: &[u16; 32],
+    k: usize,
+) -> DueNumber
+    requires { ⌜ (soundLimits l ≡ true) × (oldest < 2 * l .window) × (next < 2 * l .window) × (distance (2 * l .window) oldest next ≤ l .window) ⌝ }
+    ensures { λ r. ⌜ ((cells : List ℕ)
+        → Answers (resendQuestions l (matState (l .window) (matOf oldest next (now (marks .entry)) (now (timers .entry)) cells)) k) (r .answer) (r .number)
+        (step (2 * l .window) oldest k) 0) ⌝ }
+{
+    let w = l.window;
+    if k < ring::gap(2 * w, oldest, next) {
         let number = ring::forward(2 * w, oldest, k);
         let at = ring::slot(w, number);
-        if m.marks[at] {
-            not_sent(m, Answer::AlreadyAcknowledged)
+        if marks[at] {
+            not_due(Answer::AlreadyAcknowledged)
         } else {
-            if m.timers[at] == 0 {
-                sent_again(l, m, k, number, at)
+            if timers[at] == 0 {
+                DueNumber {
+                    answer: Answer::Done,
+                    number,
+                }
             } else {
-                not_sent(m, Answer::TimerRunning)
+                not_due(Answer::TimerRunning)
             }
         }
     } else {
-        not_sent(m, Answer::NotOutstanding)
+        not_due(Answer::NotOutstanding)
     }
+}
+
+// The kept row under `number`, whose timer is set again.
+pub fn again(l: Limits, number: usize, timers: &mut [u16; 32], cells: &[u16; 512]) -> [u16; 16]
+    requires { ⌜ (soundLimits l ≡ true) × (number < 2 * l .window) ⌝ }
+    ensures { λ r. ⌜ ((oldest next : ℕ) (marks : List Bool) (k : ℕ)
+        → soundMat l (matOf oldest next marks (now (timers .entry)) (now (cells .entry))) ≡ true
+        → k < outstandingOf (l .window) (matOf oldest next marks (now (timers .entry)) (now (cells .entry)))
+        → number ≡ step (2 * l .window) oldest k
+        → (soundMat l (matOf oldest next marks (now (timers .exit)) (now (cells .entry))) ≡ true)
+        × (record { state = matState (l .window) (matOf oldest next marks (now (timers .exit)) (now (cells .entry))); message = record { number = number; row = r } }
+        ≡ resending l (matState (l .window) (matOf oldest next marks (now (timers .entry)) (now (cells .entry)))) k)) ⌝ }
+{
+    let at = ring::slot(l.window, number);
+    set_timer(timers, at, l.resendwait);
+    rows::load(cells, at)
 }
 
 // How many of `most` numbers from place `from` on, round the ring, are marked, up to the first that is not.
@@ -245,63 +293,78 @@ fn marked_run(marks: &[bool; 32], w: usize, from: usize, most: usize) -> usize
     n
 }
 
+// How many places the marks have. `mark_off` calls it for the proof alone: lent as a slice, an array tells its length.
+fn places(marks: &[bool]) -> usize
+    ensures { λ r. ⌜ r ≡ length (now (marks .entry)) ⌝ }
+{
+    marks.len()
+}
+
 // The `count` numbers from `first` on are marked, and oldest passes every marked number, whose marks are taken away.
-fn marked_off(l: Limits, m: Mat, first: usize, count: usize) -> Acknowledged
-    requires { ⌜ (soundLimits l ≡ true) × (soundMat l m ≡ true) × (first < 2 * l .window) × (1 ≤ count)
-        × (distance (2 * l .window) (m .oldest) first + count ≤ outstandingOf (l .window) m) ⌝ }
-    ensures { λ r. ⌜ (r .answer ≡ Answer.Done) × (soundMat l (r .mat) ≡ true)
-        × (shownAcknowledging l r ≡ passing l (matState (l .window) m) (distance (2 * l .window) (m .oldest) first) count) ⌝ }
+fn mark_off(
+    l: Limits,
+    oldest: usize,
+    next: usize,
+    marks: &mut [bool; 32],
+    first: usize,
+    count: usize,
+) -> Passed
+    requires { ⌜ (soundLimits l ≡ true) × (oldest < 2 * l .window) × (next < 2 * l .window) × (distance (2 * l .window) oldest next ≤ l .window)
+        × (first < 2 * l .window) × (1 ≤ count) × (distance (2 * l .window) oldest first + count ≤ distance (2 * l .window) oldest next) ⌝ }
+    ensures { λ r. ⌜ ((timers cells : List ℕ) → soundMat l (matOf oldest next (now (marks .entry)) timers cells) ≡ true
+        → (r .answer ≡ Answer.Done) × (soundMat l (matOf (r .oldest) next (now (marks .exit)) timers cells) ≡ true)
+        × (record { state = matState (l .window) (matOf (r .oldest) next (now (marks .exit)) timers cells); passed = r .passed }
+        ≡ passing l (matState (l .window) (matOf oldest next (now (marks .entry)) timers cells)) (distance (2 * l .window) oldest first) count)) ⌝ }
 {
     let w = l.window;
-    let oldest = m.oldest;
-    let out = ring::gap(2 * w, oldest, m.next);
+    let out = ring::gap(2 * w, oldest, next);
     let from = ring::slot(w, oldest);
-    let mut after = m;
-    rows::set_span(&mut after.marks, w, ring::slot(w, first), count, true);
-    let passed = marked_run(&after.marks, w, from, out);
-    rows::set_span(&mut after.marks, w, from, passed, false);
-    after.oldest = ring::forward(2 * w, oldest, passed);
-    Acknowledged {
+    places(marks);
+    rows::set_span(marks, w, ring::slot(w, first), count, true);
+    let passed = marked_run(marks, w, from, out);
+    rows::set_span(marks, w, from, passed, false);
+    Passed {
         answer: Answer::Done,
-        mat: after,
+        oldest: ring::forward(2 * w, oldest, passed),
         passed,
     }
 }
 
-pub fn acknowledge(l: Limits, m: Mat, first: usize, last: usize) -> Acknowledged
-    requires { ⌜ (soundLimits l ≡ true) × (soundMat l m ≡ true) × (soundReply l (record { first = first; last = last }) ≡ true) ⌝ }
-    ensures { λ r. ⌜ AcknowledgeCall l m (acknowledgeQuestions l (matState (l .window) m) (record { first = first; last = last }))
-        (acknowledging l (matState (l .window) m) (record { first = first; last = last })) r ⌝ }
+pub fn acknowledge(
+    l: Limits,
+    oldest: usize,
+    next: usize,
+    marks: &mut [bool; 32],
+    first: usize,
+    last: usize,
+) -> Passed
+    requires { ⌜ (soundLimits l ≡ true) × (oldest < 2 * l .window) × (next < 2 * l .window) × (distance (2 * l .window) oldest next ≤ l .window)
+        × (soundReply l (record { first = first; last = last }) ≡ true) ⌝ }
+    ensures { λ r. ⌜ ((timers cells : List ℕ) → soundMat l (matOf oldest next (now (marks .entry)) timers cells) ≡ true
+        → (let s = matState (l .window) (matOf oldest next (now (marks .entry)) timers cells) in
+        AcknowledgeCall l (matOf oldest next (now (marks .entry)) timers cells)
+        (acknowledgeQuestions l s (record { first = first; last = last })) (acknowledging l s (record { first = first; last = last }))
+        (record { answer = r .answer; mat = matOf (r .oldest) next (now (marks .exit)) timers cells; passed = r .passed }))) ⌝ }
 {
     let w = l.window;
-    let oldest = m.oldest;
     let count = ring::gap(2 * w, first, last) + 1;
-    if ring::gap(2 * w, oldest, first) + count <= ring::gap(2 * w, oldest, m.next) {
-        marked_off(l, m, first, count)
+    if ring::gap(2 * w, oldest, first) + count <= ring::gap(2 * w, oldest, next) {
+        mark_off(l, oldest, next, marks, first, count)
     } else {
-        Acknowledged {
+        Passed {
             answer: Answer::SpanNotOutstanding,
-            mat: m,
+            oldest,
             passed: 0,
         }
     }
 }
 
-pub fn tick(l: Limits, m: Mat, d: u16) -> Ticked
-    requires { ⌜ (soundLimits l ≡ true) × (soundMat l m ≡ true) ⌝ }
-    ensures { λ r. ⌜ TickCall l m (timeQuestions d) (ticked d (matState (l .window) m)) r ⌝ }
+pub fn tick(l: Limits, timers: &mut [u16; 32], d: u16)
+    requires { ⌜ soundLimits l ≡ true ⌝ }
+    ensures { λ _. ⌜ ((oldest next : ℕ) (marks : List Bool) (cells : List ℕ) → soundMat l (matOf oldest next marks (now (timers .entry)) cells) ≡ true
+        → (soundMat l (matOf oldest next marks (now (timers .exit)) cells) ≡ true)
+        × (matState (l .window) (matOf oldest next marks (now (timers .exit)) cells)
+        ≡ ticked d (matState (l .window) (matOf oldest next marks (now (timers .entry)) cells)))) ⌝ }
 {
-    if 1 <= d {
-        let mut after = m;
-        rows::fall(&mut after.timers, l.window, d);
-        Ticked {
-            answer: Answer::Done,
-            mat: after,
-        }
-    } else {
-        Ticked {
-            answer: Answer::BadArgument,
-            mat: m,
-        }
-    }
+    rows::fall(timers, l.window, d);
 }

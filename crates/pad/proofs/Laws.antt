@@ -7,5 +7,6 @@ pub mod Joined
 pub mod Run
 pub mod Passing
 pub mod Refused
+pub mod Calls
 pub mod Fresh
 pub mod Messages

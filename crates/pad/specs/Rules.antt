@@ -18,8 +18,8 @@ pub record Arrival : Type 0 where
   pub reply : Reply
 
 -- the row fills its slot, whatever was there, and its reply timer starts
-abbrev pub held : Limits → PadState → Data → PadState
-held l s x =
+abbrev pub holding : Limits → PadState → Data → PadState
+holding l s x =
     record {
       wanted = s .wanted;
       slots = set (s .slots) (distance (2 * l .window) (s .wanted) (x .number)) (full (l .replywait) (x .row));
@@ -29,7 +29,7 @@ held l s x =
 unfoldable pub arrival : Limits → PadState → Data → Arrival
 arrival l s x =
     pick (ltb (distance (2 * l .window) (s .wanted) (x .number)) (l .window))
-    (record { state = held l s x; old = false; reply = noReply })
+    (record { state = holding l s x; old = false; reply = noReply })
     (record { state = s; old = true; reply = record { first = x .number; last = x .number } })
 
 abbrev pub noArrival : PadState → Arrival

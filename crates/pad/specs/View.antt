@@ -18,6 +18,10 @@ use Rattle.pad.specs.declared.Ticked.{Ticked}
 use Rattle.pad.specs.Window.{Slot, empty, full, PadState}
 use Rattle.pad.specs.Rules.{Arrival, noArrival, Replying, notReplying}
 
+-- the pad of its number and its three arrays
+abbrev pub padOf : ℕ → List Bool → List ℕ → List ℕ → Pad
+padOf wanted held timers cells = record { wanted = wanted; held = held; timers = timers; cells = cells }
+
 -- the row at place p
 unfoldable pub slotAt : Pad → ℕ → Slot
 slotAt p at = pick (getD (p .held) at false) (full (getD (p .timers) at 0) (rowAt (p .cells) at)) empty

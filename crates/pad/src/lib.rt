@@ -1,6 +1,6 @@
 // The pad (receiver). Each call puts question 4 first: to the limits, the pad and the message handed to it.
 ghost use mathlib.Core.Path.{_≡_};
-ghost use mathlib.Core.Bool.{_&&_};
+ghost use mathlib.Core.Bool.{true, _&&_};
 ghost use mathlib.Core.List.{[], _∷_};
 ghost use lib.ListN.{length};
 ghost use Rattle.limits.specs.Questions.{ask, Answers, timeQuestions};
@@ -77,6 +77,40 @@ fn sound_with(l: Limits, p: Pad, number: usize, row: [u16; 16]) -> bool
         && (soundpad::pad_sound(l, p) && soundpad::message_sound(l, number, row))
 }
 
+// Data arrives at a pad that passed question 4.
+fn taken(l: Limits, p: Pad, number: usize, row: [u16; 16]) -> Arrived
+    requires { ⌜ (soundLimits l ≡ true) × (soundPad l p ≡ true) × (soundData l (record { number = number; row = row }) ≡ true) ⌝ }
+    ensures { λ r. ⌜ ArriveCall l p [] (arrival l (padState (l .window) p) (record { number = number; row = row })) r ⌝ }
+{
+    let wanted = p.wanted;
+    if soundpad::in_window(l, wanted, number) {
+        let mut held = p.held;
+        let mut timers = p.timers;
+        let mut cells = p.cells;
+        soundpad::hold(l, number, &mut held, &mut timers, &mut cells, row);
+        Arrived {
+            answer: Answer::Done,
+            pad: Pad {
+                wanted,
+                held,
+                timers,
+                cells,
+            },
+            old: false,
+            first: 0,
+            last: 0,
+        }
+    } else {
+        Arrived {
+            answer: Answer::Done,
+            pad: p,
+            old: true,
+            first: number,
+            last: number,
+        }
+    }
+}
+
 // Data arrives: 4. The row is held, or it is an old one and a reply for it is to be put.
 pub fn arrive(l: Limits, p: Pad, number: usize, row: [u16; 16]) -> Arrived
     ensures { λ r. ⌜ ArriveCall l p
@@ -84,9 +118,15 @@ pub fn arrive(l: Limits, p: Pad, number: usize, row: [u16; 16]) -> Arrived
         (arrival l (padState (l .window) p) (record { number = number; row = row })) r ⌝ }
 {
     if sound_with(l, p, number, row) {
-        soundpad::arrive(l, p, number, row)
+        taken(l, p, number, row)
     } else {
-        soundpad::not_arrived(p, Answer::Unsound)
+        Arrived {
+            answer: Answer::Unsound,
+            pad: p,
+            old: false,
+            first: 0,
+            last: 0,
+        }
     }
 }
 
@@ -96,12 +136,63 @@ pub fn run_length(l: Limits, p: Pad) -> RunLength
         (r .answer) (r .count) (run (padState (l .window) p)) 0 ⌝ }
 {
     if sound(l, p) {
-        soundpad::run_length(l, p)
+        let held = p.held;
+        let timers = p.timers;
+        soundpad::run_length(l, p.wanted, &held, &timers)
     } else {
         RunLength {
             answer: Answer::Unsound,
             count: 0,
         }
+    }
+}
+
+// The pad as it is, with nothing recorded and nothing to put.
+fn not_replied(p: Pad, answer: Answer) -> Replied
+    ensures { λ r. ⌜ (r .answer ≡ answer) × (r .pad ≡ p) × (r .count ≡ 0) × (r .first ≡ 0) × (r .last ≡ 0) ⌝ }
+{
+    Replied {
+        answer,
+        pad: p,
+        count: 0,
+        first: 0,
+        last: 0,
+    }
+}
+
+// A reply of a pad that passed question 4: 20, 21.
+fn recorded(l: Limits, p: Pad, buffer: &mut [u16]) -> Replied
+    requires { ⌜ (soundLimits l ≡ true) × (soundPad l p ≡ true) ⌝ }
+    ensures { λ r. ⌜ ReplyCall l p (now (buffer .entry)) (now (buffer .exit))
+        (replyQuestions (padState (l .window) p) (length (now (buffer .entry))))
+        (replying l (padState (l .window) p) (now (buffer .entry))) r ⌝ }
+{
+    let first = p.wanted;
+    let mut held = p.held;
+    let timers = p.timers;
+    let cells = p.cells;
+    let run = soundpad::run_length(l, first, &held, &timers);
+    let answer = run.answer;
+    let Answer::Done = answer else {
+        return not_replied(p, answer);
+    };
+    let count = run.count;
+    if 16 * count <= buffer.len() {
+        let passed = soundpad::record_run(l, first, &mut held, &cells, count, buffer);
+        Replied {
+            answer,
+            pad: Pad {
+                wanted: passed.wanted,
+                held,
+                timers,
+                cells,
+            },
+            count,
+            first,
+            last: passed.last,
+        }
+    } else {
+        not_replied(p, Answer::RecordFull)
     }
 }
 
@@ -112,9 +203,9 @@ pub fn reply(l: Limits, p: Pad, buffer: &mut [u16]) -> Replied
         (replying l (padState (l .window) p) (now (buffer .entry))) r ⌝ }
 {
     if sound(l, p) {
-        soundpad::reply(l, p, buffer)
+        recorded(l, p, buffer)
     } else {
-        soundpad::not_replied(p, Answer::Unsound)
+        not_replied(p, Answer::Unsound)
     }
 }
 
@@ -123,7 +214,19 @@ pub fn tick(l: Limits, p: Pad, d: u16) -> Ticked
     ensures { λ r. ⌜ TickCall l p (ask 4 (soundLimits l && soundPad l p) ∷ timeQuestions d) (ticked d (padState (l .window) p)) r ⌝ }
 {
     if sound(l, p) {
-        soundpad::tick(l, p, d)
+        if 1 <= d {
+            let mut pad = p;
+            soundpad::tick(l, &mut pad.timers, d);
+            Ticked {
+                answer: Answer::Done,
+                pad,
+            }
+        } else {
+            Ticked {
+                answer: Answer::BadArgument,
+                pad: p,
+            }
+        }
     } else {
         Ticked {
             answer: Answer::Unsound,

@@ -1,42 +1,21 @@
-// Inner: called by the pad's public calls and by the link. The pad's calls where question 4 has been put and passed.
+// Inner: called by the pad's public calls and by the link. The pad's events where question 4 has been put and passed. Each takes
+// the numbers and arrays that it needs; arrays are lent and change in place.
 ghost use mathlib.Core.Path.{_≡_};
 ghost use mathlib.Core.Bool.{Bool, true, false, _&&_};
-ghost use mathlib.Core.List.{[], _++_};
-ghost use Prim.Native.Nat.{_+_, _*_, _%_, _<_, _≤_};
+ghost use mathlib.Core.List.{List, _++_};
+ghost use Prim.Native.Nat.{ℕ, _+_, _*_, _%_, _<_, _≤_};
 ghost use lib.Dec.{ltb};
 ghost use lib.ListN.{length, getD, drop};
 ghost use Rattle.limits.specs.Lists.{tab, all, leading, joined};
 ghost use Rattle.limits.specs.Cells.{rowAt, legalRow};
-ghost use Rattle.limits.specs.Questions.{pick, Answers, timeQuestions};
+ghost use Rattle.limits.specs.Questions.{pick, Answers};
 ghost use Rattle.limits.specs.Limits.{soundLimits};
+ghost use Rattle.limits.specs.Ring.{distance};
 ghost use Rattle.limits.specs.Tables.{soundData};
-ghost use Rattle.pad.specs.Window.{noReply};
-ghost use Rattle.pad.specs.Rules.{
-  arrival,
-  noArrival,
-  run,
-  runQuestions,
-  replyQuestions,
-  replying,
-  notReplying,
-  ticked,
-};
-ghost use Rattle.pad.specs.View.{
-  slotAt,
-  padState,
-  soundSlot,
-  soundPad,
-  shownArrival,
-  ArriveCall,
-  shownReplying,
-  ReplyCall,
-  TickCall,
-};
-use crate::Arrived;
+ghost use Rattle.pad.specs.Rules.{holding, run, runQuestions, replying, ticked};
+ghost use Rattle.pad.specs.View.{padOf, slotAt, padState, soundSlot, soundPad};
 use crate::Pad;
-use crate::Replied;
 use crate::RunLength;
-use crate::Ticked;
 use limits::Limits;
 use limits::answer::Answer;
 use limits::ring;
@@ -87,47 +66,44 @@ pub fn message_sound(l: Limits, number: usize, row: [u16; 16]) -> bool
     number < 2 * l.window && rows::legal_row(row)
 }
 
-// The pad as it is, with nothing to put.
-pub fn not_arrived(p: Pad, answer: Answer) -> Arrived
-    ensures { λ r. ⌜ (r .answer ≡ answer) × (r .pad ≡ p) × (r .old ≡ false) × (r .first ≡ 0) × (r .last ≡ 0) ⌝ }
-{
-    Arrived {
-        answer,
-        pad: p,
-        old: false,
-        first: 0,
-        last: 0,
-    }
+// What recording a run gives: the number wanted then, and the last number of the run.
+pub struct Recorded {
+    pub wanted: usize,
+    pub last: usize,
 }
 
-pub fn arrive(l: Limits, p: Pad, number: usize, row: [u16; 16]) -> Arrived
-    requires { ⌜ (soundLimits l ≡ true) × (soundPad l p ≡ true) × (soundData l (record { number = number; row = row }) ≡ true) ⌝ }
-    ensures { λ r. ⌜ ArriveCall l p [] (arrival l (padState (l .window) p) (record { number = number; row = row })) r ⌝ }
+// Whether the number is one of the window. Any other is an old row's.
+pub fn in_window(l: Limits, wanted: usize, number: usize) -> bool
+    requires { ⌜ (soundLimits l ≡ true) × (wanted < 2 * l .window) × (number < 2 * l .window) ⌝ }
+    ensures { λ r. ⌜ r ≡ ltb (distance (2 * l .window) wanted number) (l .window) ⌝ }
 {
     let w = l.window;
-    let wanted = p.wanted;
-    if ring::gap(2 * w, wanted, number) < w {
-        let at = ring::slot(w, number);
-        let mut next = p;
-        next.held[at] = true;
-        next.timers[at] = l.replywait;
-        rows::store(&mut next.cells, at, row);
-        Arrived {
-            answer: Answer::Done,
-            pad: next,
-            old: false,
-            first: 0,
-            last: 0,
-        }
-    } else {
-        Arrived {
-            answer: Answer::Done,
-            pad: p,
-            old: true,
-            first: number,
-            last: number,
-        }
-    }
+    ring::gap(2 * w, wanted, number) < w
+}
+
+// The row is held, and its reply timer starts.
+pub fn hold(
+    l: Limits,
+    number: usize,
+    held: &mut [bool; 32],
+    timers: &mut [u16; 32],
+    cells: &mut [u16; 512],
+    row: [u16; 16],
+)
+    requires { ⌜ (soundLimits l ≡ true) × (number < 2 * l .window) ⌝ }
+    ensures { λ _. ⌜ ((wanted : ℕ) → soundPad l (padOf wanted (now (held .entry)) (now (timers .entry)) (now (cells .entry))) ≡ true
+        → legalRow row ≡ true → distance (2 * l .window) wanted number < l .window
+        → (soundPad l (padOf wanted (now (held .exit)) (now (timers .exit)) (now (cells .exit))) ≡ true)
+        × (padState (l .window) (padOf wanted (now (held .exit)) (now (timers .exit)) (now (cells .exit)))
+        ≡ holding l (padState (l .window) (padOf wanted (now (held .entry)) (now (timers .entry)) (now (cells .entry)))) (record { number = number; row = row }))) ⌝ }
+{
+    let at = ring::slot(l.window, number);
+    // as slices: a lent array's length is known to the proof only where it is made a slice
+    let marks: &mut [bool] = held;
+    marks[at] = true;
+    let waits: &mut [u16] = timers;
+    waits[at] = l.replywait;
+    rows::write(cells, 16 * at, row);
 }
 
 // Held with a reply timer above 0.
@@ -156,22 +132,14 @@ fn ready_run(held: &[bool; 32], timers: &[u16; 32], w: usize, from: usize) -> us
     n
 }
 
-// The length of the run at wanted; 0 where row wanted is not ready.
-fn run_at(l: Limits, p: Pad) -> usize
-    requires { ⌜ (soundLimits l ≡ true) × (soundPad l p ≡ true) ⌝ }
-    ensures { λ r. ⌜ r ≡ run (padState (l .window) p) ⌝ }
+// The length of the run at wanted: 20.
+pub fn run_length(l: Limits, wanted: usize, held: &[bool; 32], timers: &[u16; 32]) -> RunLength
+    requires { ⌜ (soundLimits l ≡ true) × (wanted < 2 * l .window) ⌝ }
+    ensures { λ r. ⌜ ((cells : List ℕ) → (let s = padState (l .window) (padOf wanted (now (held .entry)) (now (timers .entry)) cells) in
+        Answers (runQuestions s) (r .answer) (r .count) (run s) 0)) ⌝ }
 {
     let w = l.window;
-    let held = p.held;
-    let timers = p.timers;
-    ready_run(&held, &timers, w, ring::slot(w, p.wanted))
-}
-
-pub fn run_length(l: Limits, p: Pad) -> RunLength
-    requires { ⌜ (soundLimits l ≡ true) × (soundPad l p ≡ true) ⌝ }
-    ensures { λ r. ⌜ Answers (runQuestions (padState (l .window) p)) (r .answer) (r .count) (run (padState (l .window) p)) 0 ⌝ }
-{
-    let count = run_at(l, p);
+    let count = ready_run(held, timers, w, ring::slot(w, wanted));
     if 0 < count {
         RunLength {
             answer: Answer::Done,
@@ -201,75 +169,41 @@ fn write_run(buffer: &mut [u16], cells: &[u16; 512], w: usize, from: usize, coun
     }
 }
 
-// The pad as it is, with nothing recorded and nothing to put.
-pub fn not_replied(p: Pad, answer: Answer) -> Replied
-    ensures { λ r. ⌜ (r .answer ≡ answer) × (r .pad ≡ p) × (r .count ≡ 0) × (r .first ≡ 0) × (r .last ≡ 0) ⌝ }
-{
-    Replied {
-        answer,
-        pad: p,
-        count: 0,
-        first: 0,
-        last: 0,
-    }
-}
-
-// The run of `count` rows recorded and passed.
-fn replied(l: Limits, p: Pad, count: usize, buffer: &mut [u16]) -> Replied
-    requires { ⌜ (soundLimits l ≡ true) × (soundPad l p ≡ true) × (count ≡ run (padState (l .window) p)) × (0 < count)
-        × (16 * count ≤ length (now buffer)) ⌝ }
-    ensures { λ r. ⌜ (r .answer ≡ Answer.Done) × (soundPad l (r .pad) ≡ true)
-        × (shownReplying l r (now (buffer .exit)) ≡ replying l (padState (l .window) p) (now (buffer .entry))) ⌝ }
+// The run of `count` rows at wanted is recorded and passed.
+pub fn record_run(
+    l: Limits,
+    wanted: usize,
+    held: &mut [bool; 32],
+    cells: &[u16; 512],
+    count: usize,
+    buffer: &mut [u16],
+) -> Recorded
+    requires { ⌜ (soundLimits l ≡ true) × (wanted < 2 * l .window) × (1 ≤ count) × (count ≤ l .window) × (16 * count ≤ length (now buffer)) ⌝ }
+    ensures { λ r. ⌜ ((timers : List ℕ) → soundPad l (padOf wanted (now (held .entry)) timers (now (cells .entry))) ≡ true
+        → count ≡ run (padState (l .window) (padOf wanted (now (held .entry)) timers (now (cells .entry))))
+        → (soundPad l (padOf (r .wanted) (now (held .exit)) timers (now (cells .entry))) ≡ true)
+        × (record {
+          state = padState (l .window) (padOf (r .wanted) (now (held .exit)) timers (now (cells .entry)));
+          count = count;
+          reply = record { first = wanted; last = r .last };
+          buffer = now (buffer .exit);
+        } ≡ replying l (padState (l .window) (padOf wanted (now (held .entry)) timers (now (cells .entry)))) (now (buffer .entry)))) ⌝ }
 {
     let w = l.window;
-    let wanted = p.wanted;
     let from = ring::slot(w, wanted);
-    let mut next = p;
-    write_run(buffer, &next.cells, w, from, count);
-    rows::set_span(&mut next.held, w, from, count, false);
-    next.wanted = ring::forward(2 * w, wanted, count);
-    Replied {
-        answer: Answer::Done,
-        pad: next,
-        count,
-        first: wanted,
+    write_run(buffer, cells, w, from, count);
+    rows::set_span(held, w, from, count, false);
+    Recorded {
+        wanted: ring::forward(2 * w, wanted, count),
         last: ring::forward(2 * w, wanted, count - 1),
     }
 }
 
-pub fn reply(l: Limits, p: Pad, buffer: &mut [u16]) -> Replied
-    requires { ⌜ (soundLimits l ≡ true) × (soundPad l p ≡ true) ⌝ }
-    ensures { λ r. ⌜ ReplyCall l p (now (buffer .entry)) (now (buffer .exit))
-        (replyQuestions (padState (l .window) p) (length (now (buffer .entry))))
-        (replying l (padState (l .window) p) (now (buffer .entry))) r ⌝ }
+pub fn tick(l: Limits, timers: &mut [u16; 32], d: u16)
+    requires { ⌜ soundLimits l ≡ true ⌝ }
+    ensures { λ _. ⌜ ((wanted : ℕ) (held : List Bool) (cells : List ℕ) → soundPad l (padOf wanted held (now (timers .entry)) cells) ≡ true
+        → (soundPad l (padOf wanted held (now (timers .exit)) cells) ≡ true)
+        × (padState (l .window) (padOf wanted held (now (timers .exit)) cells) ≡ ticked d (padState (l .window) (padOf wanted held (now (timers .entry)) cells)))) ⌝ }
 {
-    let count = run_at(l, p);
-    if 0 < count {
-        if 16 * count <= buffer.len() {
-            replied(l, p, count, buffer)
-        } else {
-            not_replied(p, Answer::RecordFull)
-        }
-    } else {
-        not_replied(p, Answer::NothingReady)
-    }
-}
-
-pub fn tick(l: Limits, p: Pad, d: u16) -> Ticked
-    requires { ⌜ (soundLimits l ≡ true) × (soundPad l p ≡ true) ⌝ }
-    ensures { λ r. ⌜ TickCall l p (timeQuestions d) (ticked d (padState (l .window) p)) r ⌝ }
-{
-    if 1 <= d {
-        let mut next = p;
-        rows::fall(&mut next.timers, l.window, d);
-        Ticked {
-            answer: Answer::Done,
-            pad: next,
-        }
-    } else {
-        Ticked {
-            answer: Answer::BadArgument,
-            pad: p,
-        }
-    }
+    rows::fall(timers, l.window, d);
 }

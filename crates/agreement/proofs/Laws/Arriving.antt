@@ -9,11 +9,10 @@ use borrow.Author.Tests.{lt-ltb}
 use lib.ListN.{length, length-map}
 use Rattle.limits.specs.declared.Limits.{Limits}
 use Rattle.limits.specs.Questions.{pick}
-use Rattle.limits.specs.Tables.{Message, Data, Reply, capacity, put, remove}
+use Rattle.limits.specs.Tables.{Message, Data, Reply, capacity, remove}
 use Rattle.pad.specs.Rules as pad
 use Rattle.unbounded.specs.Ends.{Ends}
 use Rattle.unbounded.specs.Rules as unbounded
-use Rattle.link.specs.State.{LinkState}
 use Rattle.link.specs.Rules as link
 use Rattle.unbounded.proofs.Laws.Reads.{Reads}
 use Rattle.agreement.specs.Reading.{dataModulo, replyModulo, matOf, padOf, reading}
@@ -37,24 +36,13 @@ module _ (l : Limits) (s : Ends) (p : ℕ) (reads : Reads l s) (h : p < length (
       let b = reads .datas p h in
       ap (pad.arrival l (padOf (l .window) s)) data-read ∙ arrival-read l s (unbounded.dataAt s p) (b .0) (b .1)
 
--- the built link once message p was taken as y
-abbrev takenAs : LinkState → ℕ → pad.Arrival → LinkState
-takenAs s p y =
-    record {
-      limits = s .limits;
-      mat = s .mat;
-      pad = y .state;
-      datas = remove p (s .datas);
-      replies = pick (y .old) (put (link.replyOut s (y .reply)) (s .replies)) (s .replies);
-    }
-
 -- the unbounded ends without message p
 abbrev pub without : Ends → ℕ → Ends
 without s p = unbounded.withTables s (remove p (s .dataTable)) (s .replyTable)
 
 module _ (l : Limits) (s : Ends) (p : ℕ) where
   taken-read : (x : Data) (b : Bool)
-      → takenAs (reading l s) p (pick b (oldRow l s x) (newRow l s x))
+      → link.taken (reading l s) p (pick b (oldRow l s x) (newRow l s x))
       ≡ reading l (pick b (unbounded.replied l (without s p) (x .number) (x .number)) (unbounded.holding l (without s p) x))
   unfolding reading pick
   taken-read x true =
@@ -76,9 +64,9 @@ module _ (l : Limits) (s : Ends) (p : ℕ) where
 
   -- the link after the arrival
   pub arriving-read : Reads l s → p < length (s .dataTable)
-      → takenAs (reading l s) p (link.arrivalAt (reading l s) p) ≡ reading l (unbounded.arrived l (without s p) (unbounded.dataAt s p))
+      → link.taken (reading l s) p (link.arrivalAt (reading l s) p) ≡ reading l (unbounded.arrived l (without s p) (unbounded.dataAt s p))
   arriving-read reads h =
-      ap (takenAs (reading l s) p) (arrival-is l s p reads h) ∙ taken-read (unbounded.dataAt s p) (ltb (unbounded.dataAt s p .number) (s .wanted))
+      ap (link.taken (reading l s) p) (arrival-is l s p reads h) ∙ taken-read (unbounded.dataAt s p) (ltb (unbounded.dataAt s p .number) (s .wanted))
 
   -- an old row finds room for its reply
   room-with : (x : Data) (b : Bool)

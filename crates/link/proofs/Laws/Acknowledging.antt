@@ -1,13 +1,12 @@
 -- A reply of the table arrives at the mat.
-use Prim.Native.Nat.{ℕ, _<_}
+use Prim.Native.Nat.{ℕ}
 use mathlib.Core.Path.{_≡_, refl, sym, _∙_, ap}
-use mathlib.Core.Bool.{true}
 use mathlib.Core.List.{List, _++_}
-use lib.ListN.{length, getD}
+use lib.ListN.{getD}
 use Rattle.limits.specs.Answer.{numberOf}
 use Rattle.limits.specs.Lists.{all}
 use Rattle.limits.specs.Questions.{firstNo}
-use Rattle.limits.specs.Tables.{Message, Reply, remove, soundReply}
+use Rattle.limits.specs.Tables.{Reply, remove}
 use Rattle.limits.specs.Events.{arriveReply}
 use Rattle.limits.proofs.Laws.Promise.{called-done, done-of, none-no}
 use Rattle.limits.proofs.Laws.Questions.{behind-passed}
@@ -23,7 +22,7 @@ use Rattle.air.specs.Replies.{replyMessages, noReply, ReplyCall, ReplyReading}
 use Rattle.link.specs.declared.Link.{Link}
 use Rattle.link.specs.View.{linkState, Moves}
 use Rattle.link.proofs.Laws.Parts.{Parts, whole}
-use Rattle.link.proofs.Laws.Messages.{found, reply-at-sound}
+use Rattle.link.proofs.Laws.Messages.{reply-is}
 
 module _ (k : Link) (p : Parts k) (n : ℕ) (read : ReplyRead) (c : ReplyReading (k .replies) n (placeQuestions n (replyMessages (k .replies))) read)
     (e : numberOf (read .answer) ≡ 0) where
@@ -33,14 +32,8 @@ module _ (k : Link) (p : Parts k) (n : ℕ) (read : ReplyRead) (c : ReplyReading
   passes : firstNo (placeQuestions n (replyMessages (k .replies))) ≡ 0
   passes = none-no _ _ _ _ _ c e
 
-  pub place-there : n < length (replyMessages (k .replies))
-  place-there = found n (replyMessages (k .replies)) passes
-
   body-is : body ≡ getD (replyMessages (k .replies)) n noReply .body
-  body-is = ap (λ (m : Message Reply). m .body) (done-of _ _ _ _ _ c e)
-
-  pub read-sound : soundReply (k .limits) body ≡ true
-  read-sound = ap (soundReply (k .limits)) body-is ∙ reply-at-sound (k .limits) (k .replies) n place-there (p .replies)
+  body-is = reply-is (k .limits) (k .replies) n read c e
 
   module _ (a : Acknowledged)
       (ca : AcknowledgeCall (k .limits) (k .mat) (acknowledgeQuestions (k .limits) (matState (k .limits .window) (k .mat)) body)

@@ -1,10 +1,14 @@
 -- Question 4 of a link is question 4 of its parts.
+use Prim.Native.Nat.{_*_, _<_, _≤_}
 use mathlib.Core.Path.{_≡_}
 use mathlib.Core.Bool.{true, _&&_}
 use Rattle.limits.specs.Limits.{soundLimits}
 use Rattle.limits.proofs.Laws.Choice.{and-left, and-right, both}
+use Rattle.limits.specs.Ring.{distance}
 use Rattle.mat.specs.View.{soundMat}
+use Rattle.mat.proofs.Laws.Sound as mat
 use Rattle.pad.specs.View.{soundPad}
+use Rattle.pad.proofs.Laws.Sound as pad
 use Rattle.air.specs.Data.{soundDataTable}
 use Rattle.air.specs.Replies.{soundReplyTable}
 use Rattle.link.specs.declared.Link.{Link}
@@ -40,3 +44,11 @@ parts k e =
 pub whole : (k : Link) → Parts k → soundLink k ≡ true
 unfolding soundLink
 whole k p = both _ _ (p .limits) (both _ _ (p .mat) (both _ _ (p .pad) (both _ _ (p .datas) (p .replies))))
+
+-- what the numbers of a sound link keep to
+pub mat-numbers : (k : Link) → Parts k → (k .mat .oldest < 2 * k .limits .window) × (k .mat .next < 2 * k .limits .window)
+    × (distance (2 * k .limits .window) (k .mat .oldest) (k .mat .next) ≤ k .limits .window)
+mat-numbers k p = let f = mat.facts (k .limits) (k .mat) (p .limits) (p .mat) in (f .numbers .oldest, f .numbers .next, f .numbers .out)
+
+pub pad-number : (k : Link) → Parts k → k .pad .wanted < 2 * k .limits .window
+pad-number k p = pad.facts (k .limits) (k .pad) (p .pad) .low

@@ -7,23 +7,26 @@ use native.Mathlib.Omega.{arith}
 use lib.Dec.{eqb, leb, ltb}
 use lib.ListN.{length}
 use borrow.Author.Tests.{ltb-true, lt-ltb, le-leb, lt-leb}
-use Rattle.limits.specs.declared.answer.Answer.the-variants.{Done}
+use Rattle.limits.specs.declared.Limits.{Limits}
+use Rattle.limits.specs.declared.answer.Answer.{Answer}
 use Rattle.limits.specs.Answer.{numberOf}
+use Rattle.limits.specs.Limits.{soundLimits}
 use Rattle.limits.specs.Lists.{all}
 use Rattle.limits.specs.Questions.{Question, ask, firstNo, Answers}
-use Rattle.limits.specs.Tables.{capacity, put, soundReply}
+use Rattle.limits.specs.Tables.{capacity, put}
 use Rattle.limits.specs.Events.{reply}
 use Rattle.limits.proofs.Laws.Choice.{pick-yes, pick-no}
 use Rattle.limits.proofs.Laws.Good.{good}
 use Rattle.limits.proofs.Laws.Promise.{called-done, done-of, none-no}
 use Rattle.limits.proofs.Laws.Questions.{each, front-passed, behind-passed, more-stays}
 use Rattle.mat.specs.View.{matState}
+use Rattle.pad.specs.declared.Pad.{Pad}
 use Rattle.pad.specs.declared.Replied.{Replied}
 use Rattle.pad.specs.declared.RunLength.{RunLength}
 use Rattle.pad.specs.Window.{PadState}
 use Rattle.pad.specs.Rules.{Replying, run, runQuestions, replyQuestions, replying}
-use Rattle.pad.specs.View.{padState, shownReplying, ReplyCall}
-use Rattle.pad.proofs.Laws.Messages.{run-most, replying-sound}
+use Rattle.pad.specs.View.{padState, soundPad, shownReplying, ReplyCall}
+use Rattle.pad.proofs.Laws.Messages.{run-most}
 use Rattle.air.specs.declared.replytable.ReplyAnswer.{ReplyAnswer}
 use Rattle.air.specs.Rules.{roomQuestions}
 use Rattle.air.specs.Data.{dataMessages}
@@ -61,8 +64,8 @@ module _ (s : PadState) (n : RunLength) (c : Answers (runQuestions s) (n .answer
   some-ready = ltb-true 0 (run s) (each (runQuestions s) refl (none-no _ _ _ _ _ c e) .0)
 
 -- a run fits the window
-pub count-fits : (k : Link) → Parts k → (n : RunLength) → n .count ≡ run (padState (k .limits .window) (k .pad)) → n .count ≤ 32
-count-fits k p n e = let g = good (k .limits) (p .limits) in let m = run-most (k .limits) (p .limits) (k .pad) (p .pad) in omega arith
+pub count-fits : (l : Limits) (g : soundLimits l ≡ true) (p : Pad) → soundPad l p ≡ true → (n : ℕ) → n ≡ run (padState (l .window) p) → (n ≤ l .window) × (n ≤ 32)
+count-fits l g p s n e = let o = good l g in let m = run-most l g p s in (omega arith, omega arith)
 
 module _ (k : Link) (p : Parts k) (before after : List ℕ)
     (z : firstNo (replyAsks (padState (k .limits .window) (k .pad)) (length before) (air.replyMessages (k .replies))) ≡ 0) (rec : Replied)
@@ -78,25 +81,18 @@ module _ (k : Link) (p : Parts k) (before after : List ℕ)
   recorded-is : shownReplying (k .limits) rec after ≡ replying (k .limits) (padState (k .limits .window) (k .pad)) before
   recorded-is = done-of _ _ _ _ _ (c .answers) (c .answers .number ∙ passes)
 
-  pub run-sound : soundReply (k .limits) (record { first = rec .first; last = rec .last }) ≡ true
-  unfolding all
-  run-sound =
-      ap (λ (x : Replying). soundReply (k .limits) (x .reply)) recorded-is
-      ∙ replying-sound (k .limits) (p .limits) (k .pad) (p .pad) before
-      (ltb-true 0 (run (padState (k .limits .window) (k .pad))) (each (replyQuestions (padState (k .limits .window) (k .pad)) (length before)) refl passes .0))
-
-  pub replies : (into : ReplyAnswer)
+  pub replies : (into : ReplyAnswer) (a : Answer) → numberOf a ≡ 0
       → air.ReplyCall (k .limits) (k .replies) (roomQuestions 18 (air.replyMessages (k .replies)))
       (put (record { body = record { first = rec .first; last = rec .last }; life = k .limits .replylife }) (air.replyMessages (k .replies))) into
       → Moves k [] before after reply
       (record {
-        answer = Done;
+        answer = a;
         link = record { limits = k .limits; mat = k .mat; pad = rec .pad; datas = k .datas; replies = into .table };
         counts = record { sent = 0; acknowledged = 0; recorded = rec .count };
       })
   unfolding linkState
-  replies into d =
-      called-done (replyAsks (padState (k .limits .window) (k .pad)) (length before) (air.replyMessages (k .replies))) _ _ _ _ (sym z) _ _ _ refl
+  replies into a e d =
+      called-done (replyAsks (padState (k .limits .window) (k .pad)) (length before) (air.replyMessages (k .replies))) _ _ _ _ (e ∙ sym z) _ _ _ e
       (λ i. record {
         state =
             record {

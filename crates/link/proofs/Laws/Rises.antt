@@ -20,7 +20,7 @@ use Rattle.mat.specs.Rules as mat
 use Rattle.pad.specs.Rules as pad
 use Rattle.air.specs.Rules.{roomQuestions}
 use Rattle.link.specs.State.{LinkState, Moved, unmoved}
-use Rattle.link.specs.Rules.{questions, acted, answer, stepped, replyAt}
+use Rattle.link.specs.Rules.{arrivalAt, oldTaken, newTaken, taken, questions, acted, answer, stepped, replyAt}
 
 pub record Rises (supply buffer : List ℕ) (s : LinkState) (x : Moved) : Type 0 where
   pub sent : 16 * x .counts .sent ≤ length supply
@@ -62,13 +62,18 @@ module _ (supply buffer : List ℕ) (s : LinkState) where
   arriveReply-rises : (p : ℕ) → Rises supply buffer s (acted supply buffer s (arriveReply p))
   arriveReply-rises p = record { sent = omega arith; recorded = omega arith; balance = let b = passing-balance (mat.startOf (s .limits) (s .mat) (replyAt s p)) (span (s .limits .window) (replyAt s p)) in omega arith }
 
+  taken-mat : (p : ℕ) → outstanding (taken s p (arrivalAt s p) .mat) ≡ outstanding (s .mat)
+  taken-mat p =
+      pick-cases (λ (t : LinkState). outstanding (t .mat) ≡ outstanding (s .mat)) (arrivalAt s p .old) (oldTaken s p (arrivalAt s p .reply)) (newTaken s p (arrivalAt s p .state))
+      (λ _. refl) (λ _. refl)
+
   acted-rises : (e : Event) → firstNo (questions supply (length buffer) s e) ≡ 0 → Rises supply buffer s (acted supply buffer s e)
   unfolding mat.ticked
   acted-rises unknown z = unmoved-rises supply buffer s s refl
   acted-rises misfit z = unmoved-rises supply buffer s s refl
   acted-rises send z = send-rises z
   acted-rises (resend k) z = resend-rises k
-  acted-rises (arriveData p) z = unmoved-rises supply buffer s _ refl
+  acted-rises (arriveData p) z = unmoved-rises supply buffer s (taken s p (arrivalAt s p)) (taken-mat p)
   acted-rises reply z = reply-rises z
   acted-rises (arriveReply p) z = arriveReply-rises p
   acted-rises (loseData p) z = unmoved-rises supply buffer s _ refl

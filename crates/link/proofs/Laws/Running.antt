@@ -15,9 +15,15 @@ use Rattle.limits.proofs.Laws.Choice.{pick-no}
 use Rattle.limits.proofs.Laws.Lists.{length-tab}
 use Rattle.limits.specs.Events.{Event, event, events}
 use Rattle.mat.specs.Window.{Kept, outstanding}
-use Rattle.mat.specs.View.{outstandingOf, markAt, cellsAt, matState}
+use Rattle.mat.specs.View.{outstandingOf, markAt, cellsAt, matState, matOf}
 use Rattle.mat.proofs.Laws.Sound.{facts}
+use Rattle.limits.specs.declared.Limits.{Limits}
+use Rattle.pad.specs.View.{padOf}
+use Rattle.air.specs.Data.{dataTable}
+use Rattle.air.specs.Replies.{replyTable}
 use Rattle.link.specs.declared.Link.{Link}
+use Rattle.link.specs.declared.lentlink.Numbers.{Numbers}
+use Rattle.link.specs.Lent.{Arrays, linkOf}
 use Rattle.link.specs.declared.Counts.{Counts}
 use Rattle.link.specs.declared.Progress.{Progress}
 use Rattle.link.specs.State.{Moved, noCounts, added, unmoved}
@@ -40,6 +46,19 @@ pub record Going (bytes supply rec₀ ans₀ : List ℕ) (k : Link) (rec ans : L
   pub behind : drop i ans ≡ drop i ans₀
   pub same-record : length rec ≡ length rec₀
   pub same-answers : length ans ≡ length ans₀
+
+-- what a turn of the loop finds: its event, a place for its answer, and the rests of supply and record
+pub record Room (bytes supply rec ans : List ℕ) (counts : Counts) (i : ℕ) : Type 0 where
+  pub event : 2 * i + 1 < length bytes
+  pub answer : i < length ans
+  pub sent : 16 * counts .sent ≤ length supply
+  pub recorded : 16 * counts .recorded ≤ length rec
+
+pub room : (bytes supply rec₀ ans₀ : List ℕ) (k : Link) (rec ans : List ℕ) (link : Link) (counts : Counts) (i : ℕ)
+    → Going bytes supply rec₀ ans₀ k rec ans link counts i → i < length bytes / 2 → length bytes % 2 ≡ 0 → length bytes / 2 ≤ length ans₀
+    → Room bytes supply rec ans counts i
+room bytes supply rec₀ ans₀ k rec ans link counts i g h z f =
+    record { event = omega arith; answer = let s = g .same-answers in omega arith; sent = g .sent; recorded = g .recorded }
 
 -- at most 32 rows are outstanding
 outstanding-fits : (k : Link) → soundLink k ≡ true → outstanding (linkState k .mat) ≤ 32
@@ -144,6 +163,17 @@ moves-with : (link : Link) (supply supply' rec rec' after : List ℕ) (e : Event
     → Moves link supply rec after e r → Moves link supply' rec' after e r
 moves-with link supply supply' rec rec' after e r p q m = rw (← p, ← q) m
 
+-- numbers that an event did not keep, arrays that it did
+pub arrays-kept : (l : Limits) (n m : Numbers) (lent after : Arrays) → linkOf l m after ≡ linkOf l n lent → linkOf l n after ≡ linkOf l n lent
+arrays-kept l n m lent after e = λ i.
+    record {
+      limits = l;
+      mat = matOf (n .oldest) (n .next) (e i .mat .marks) (e i .mat .timers) (e i .mat .cells);
+      pad = padOf (n .wanted) (e i .pad .held) (e i .pad .timers) (e i .pad .cells);
+      datas = dataTable (n .datas) (e i .datas .numbers) (e i .datas .lives) (e i .datas .cells);
+      replies = replyTable (n .replies) (e i .replies .firsts) (e i .replies .lasts) (e i .replies .lives);
+    }
+
 -- a turn of the loop, on the parts that it lends
 module _ (bytes supply rec₀ ans₀ : List ℕ) (k : Link) (rec ans : List ℕ) (link : Link) (counts : Counts) (i : ℕ)
     (g : Going bytes supply rec₀ ans₀ k rec ans link counts i) (h : 2 * i + 1 < length bytes) (fits : i < length ans) (r : Progress) (after : List ℕ)
@@ -163,8 +193,10 @@ module _ (bytes supply rec₀ ans₀ : List ℕ) (k : Link) (rec ans : List ℕ)
   pub turn-done : (sum : Counts) → sum ≡ added counts (r .counts) → Going bytes supply rec₀ ans₀ k whole (set ans i n) (r .link) sum (i + 1)
   turn-done sum e = rw e turned
 
-  pub turn-refused : eqb (numberOf (r .answer)) 0 ≡ false → Going bytes supply rec₀ ans₀ k whole (set ans i n) link counts (i + 1)
-  turn-refused z = rw (stays-link, stays-counts) at turned
+  -- A refused event leaves the link. `link'` is the link of the arrays that it was lent.
+  pub turn-refused : eqb (numberOf (r .answer)) 0 ≡ false → (link' : Link) → (r .link ≡ link → link' ≡ link)
+      → Going bytes supply rec₀ ans₀ k whole (set ans i n) link' counts (i + 1)
+  turn-refused z link' same = rw (same stays-link) (rw (stays-link, stays-counts) at turned)
     where
       none : shown r after ≡ unmoved (linkState link) (take (length rec - 16 * counts .recorded) (drop (16 * counts .recorded) rec))
       none = m .answers .result ∙ pick-no _ _ _ _ (ap (λ x. eqb x 0) (sym (m .answers .number)) ∙ z) refl

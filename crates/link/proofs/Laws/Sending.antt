@@ -1,42 +1,64 @@
 -- The mat's sendings, put in the air.
 use Prim.Native.Nat.{ℕ}
-use mathlib.Core.Path.{_≡_, sym, _∙_, ap}
-use mathlib.Core.Bool.{true, false}
+use mathlib.Core.Path.{_≡_, refl, _∙_, ap}
+use mathlib.Core.Bool.{true}
 use mathlib.Core.List.{List, _++_}
-use lib.Dec.{eqb}
+use lib.Dec.{ltb}
+use lib.ListN.{length}
 use Rattle.limits.specs.Answer.{numberOf}
-use Rattle.limits.specs.Questions.{Question, firstNo, Called}
-use Rattle.limits.specs.Tables.{soundData}
-use Rattle.limits.proofs.Laws.Promise.{called-as, done-of, none-no}
-use Rattle.limits.proofs.Laws.Questions.{numbered, behind-passed, more-stays}
+use Rattle.limits.specs.Questions.{Question, Called}
+use Rattle.limits.specs.Tables.{capacity, put}
+use Rattle.limits.proofs.Laws.Choice.{pick-yes}
+use Rattle.limits.proofs.Laws.Promise.{called-done, done-of}
+use Rattle.limits.proofs.Laws.Questions.{numbered, more-passes}
 use Rattle.mat.specs.declared.Sent.{Sent}
 use Rattle.mat.specs.Rules.{Sending}
-use Rattle.mat.specs.View.{matState, SendCall}
+use Rattle.mat.specs.View.{shownSending, SendCall}
+use Rattle.pad.specs.View.{padState}
+use Rattle.air.specs.declared.datatable.DataAnswer.{DataAnswer}
 use Rattle.air.specs.Rules.{roomQuestions}
-use Rattle.air.specs.Data.{dataMessages}
+use Rattle.air.specs.Data.{dataMessages, DataCall}
+use Rattle.air.specs.Replies.{replyMessages}
 use Rattle.link.specs.declared.Link.{Link}
-use Rattle.link.specs.declared.Progress.{Progress}
 use Rattle.link.specs.State.{Moved, unmoved}
 use Rattle.link.specs.Rules.{sentOut}
-use Rattle.link.specs.View.{linkState, soundLink, shown}
+use Rattle.link.specs.View.{linkState, soundLink}
+use Rattle.link.proofs.Laws.Parts.{Parts, whole}
 
 abbrev outMoved : Link → Sending → ℕ → List ℕ → Moved
 outMoved k x sent b = record { state = sentOut (linkState k) x; counts = record { sent = sent; acknowledged = 0; recorded = 0 }; buffer = b }
 
--- refused by the mat's own questions
-pub not-sent : (k : Link) (qs : List Question) (done : Sending) (s : Sent) → SendCall (k .limits) (k .mat) qs done s → (rest : List Question) → eqb (numberOf (s .answer)) 0 ≡ false
-    → numberOf (s .answer) ≡ firstNo (qs ++ rest)
-not-sent k qs done s c rest e = more-stays qs (numberOf (s .answer)) (c .answers .number) rest e
+module _ (k : Link) (p : Parts k) (qs : List Question) (done : Sending) (s : Sent) (c : SendCall (k .limits) (k .mat) qs done s) (e : numberOf (s .answer) ≡ 0) where
+  sent-is : shownSending (k .limits) s ≡ done
+  sent-is = done-of _ _ _ _ _ (c .answers) e
 
-module _ (k : Link) (qs : List Question) (done : Sending) (s : Sent) (c : SendCall (k .limits) (k .mat) qs done s) (e : numberOf (s .answer) ≡ 0) where
-  pub sent-message : soundData (k .limits) (done .message) ≡ true → soundData (k .limits) (record { number = s .number; row = s .row }) ≡ true
-  sent-message h = ap (λ (x : Sending). soundData (k .limits) (x .message)) (done-of _ _ _ _ _ (c .answers) e) ∙ h
-
-  pub sends : (r : Progress) (sent : ℕ) (b : List ℕ) → numbered qs ≡ true
-      → Called (roomQuestions 13 (dataMessages (k .datas))) (r .answer) (shown r b)
-      (outMoved k (record { state = matState (k .limits .window) (s .mat); message = record { number = s .number; row = s .row } }) sent b)
-      (unmoved (linkState k) b) soundLink k (r .link)
-      → Called (qs ++ roomQuestions 13 (dataMessages (k .datas))) (r .answer) (shown r b) (outMoved k done sent b) (unmoved (linkState k) b) soundLink k (r .link)
-  sends r sent b n t =
-      called-as _ _ _ _ _ _ _ _ _ _ (sym (behind-passed qs (roomQuestions 13 (dataMessages (k .datas))) n (none-no _ _ _ _ _ (c .answers) e)))
-      (ap (λ x. outMoved k x sent b) (done-of _ _ _ _ _ (c .answers) e)) t
+  -- the table takes the message
+  pub sends : (into : DataAnswer) (sent : ℕ) (b : List ℕ) → numbered qs ≡ true → ltb (length (dataMessages (k .datas))) capacity ≡ true
+      → DataCall (k .limits) (k .datas) (roomQuestions 13 (dataMessages (k .datas)))
+      (put (record { body = record { number = s .number; row = s .row }; life = k .limits .datalife }) (dataMessages (k .datas))) into
+      → Called (qs ++ roomQuestions 13 (dataMessages (k .datas))) (s .answer)
+      (record {
+        state = linkState (record { limits = k .limits; mat = s .mat; pad = k .pad; datas = into .table; replies = k .replies });
+        counts = record { sent = sent; acknowledged = 0; recorded = 0 };
+        buffer = b;
+      })
+      (outMoved k done sent b) (unmoved (linkState k) b) soundLink k
+      (record { limits = k .limits; mat = s .mat; pad = k .pad; datas = into .table; replies = k .replies })
+  unfolding linkState
+  sends into sent b n t d =
+      called-done _ _ _ _ _ (e ∙ more-passes qs (numberOf (s .answer)) (c .answers .number) 13 (ltb (length (dataMessages (k .datas))) capacity) n e t) _ _ _ e
+      (λ i. record {
+        state =
+            record {
+              limits = k .limits;
+              mat = sent-is i .state;
+              pad = padState (k .limits .window) (k .pad);
+              datas =
+                  (done-of _ _ _ _ _ (d .answers) (d .answers .number ∙ pick-yes _ _ _ _ t refl)
+                  ∙ ap (λ (x : Sending). put (record { body = x .message; life = k .limits .datalife }) (dataMessages (k .datas))) sent-is) i;
+              replies = replyMessages (k .replies);
+            };
+        counts = record { sent = sent; acknowledged = 0; recorded = 0 };
+        buffer = b;
+      })
+      (whole _ (record { limits = p .limits; mat = c .keeps .stays (p .mat); pad = p .pad; datas = d .keeps .stays (p .datas); replies = p .replies }))

@@ -1,18 +1,26 @@
 -- A refused event hands the link back, and an event that was done.
 use Prim.Native.Nat.{ℕ}
 use mathlib.Core.Path.{_≡_, _∙_, ap, ap₂}
-use mathlib.Core.Bool.{true, false}
+use mathlib.Core.Bool.{Bool, true, false}
 use mathlib.Core.List.{List}
 use lib.Dec.{eqb}
 use Rattle.limits.specs.declared.answer.Answer.{Answer}
 use Rattle.limits.specs.Answer.{numberOf}
 use Rattle.limits.specs.Questions.{Question, firstNo, Called}
 use Rattle.limits.proofs.Laws.Promise.{called-done, called-refused}
+use Rattle.mat.specs.declared.Mat.{Mat}
+use Rattle.mat.specs.View.{matOf}
+use Rattle.air.specs.declared.replytable.ReplyTable.{ReplyTable}
+use Rattle.air.specs.Replies.{replyTable}
 use Rattle.link.specs.declared.Link.{Link}
 use Rattle.link.specs.declared.Counts.{Counts}
 use Rattle.link.specs.declared.Progress.{Progress}
 use Rattle.link.specs.State.{LinkState, Moved, noCounts, unmoved}
 use Rattle.link.specs.View.{linkState, soundLink, shown}
+use Rattle.limits.specs.declared.Limits.{Limits}
+use Rattle.link.specs.declared.lentlink.Numbers.{Numbers}
+use Rattle.link.specs.declared.lentlink.Step.{Step}
+use Rattle.link.specs.Lent.{Arrays, linkOf, progressOf}
 
 -- what `stays` promises
 abbrev pub Stayed : Link → Answer → Progress → Type 0
@@ -35,3 +43,36 @@ module _ (qs : List Question) (k k' : Link) (r : Progress) (a : Answer) (b : Lis
       called-done _ _ _ _ _ (ap numberOf (s .0) ∙ e) _ _ _ (ap numberOf (s .0) ∙ z)
       (shown-stays k' a r b s ∙ ap (λ x. unmoved x b) d)
       (ap soundLink (s .1) ∙ h)
+
+-- the same of a call whose promise is known for the link that stays
+pub stays-as : (qs : List Question) (k k' : Link) (r : Progress) (a : Answer) (b : List ℕ) (done : Moved) → Stayed k' a r
+    → Called qs a (unmoved (linkState k') b) done (unmoved (linkState k) b) soundLink k k'
+    → Called qs (r .answer) (shown r b) done (unmoved (linkState k) b) soundLink k (r .link)
+stays-as qs k k' r a b done s c = rw (s .0, s .1, s .2) c
+
+-- what the inner `stays` promises, and what that is of a link
+abbrev pub StaysAt : Numbers → Answer → Step → Type 0
+StaysAt n a r = (r .answer ≡ a) × (r .numbers ≡ n) × (r .counts ≡ noCounts)
+
+pub stayed-at : (l : Limits) (n : Numbers) (after : Arrays) (a : Answer) (r : Step) → StaysAt n a r → Stayed (linkOf l n after) a (progressOf l after r)
+stayed-at l n after a r s = (s .0, ap (λ x. linkOf l x after) (s .1), s .2)
+
+-- a refused event, whose lent arrays came back as they were
+module _ (l : Limits) (n : Numbers) (lent after : Arrays) (qs : List Question) (r : Step) (a : Answer) (b : List ℕ) (done : Moved) where
+  pub lent-refused : linkOf l n after ≡ linkOf l n lent → StaysAt n a r → numberOf a ≡ firstNo qs → eqb (numberOf a) 0 ≡ false
+      → Called qs (r .answer) (shown (progressOf l after r) b) done (unmoved (linkState (linkOf l n lent)) b) soundLink (linkOf l n lent) (progressOf l after r .link)
+  lent-refused same s e z =
+      stays-refused qs (linkOf l n lent) (progressOf l after r) a b done (s .0, ap (λ x. linkOf l x after) (s .1) ∙ same, s .2) e z
+
+-- a mat and a reply table that came back as they were
+pub same-marks : (l : Limits) (n : Numbers) (lent : Arrays) (oldest : ℕ) (marks : List Bool)
+    → matOf oldest (n .next) marks (lent .mattimers) (lent .matcells) ≡ matOf (n .oldest) (n .next) (lent .marks) (lent .mattimers) (lent .matcells)
+    → linkOf l n (record { marks = marks; mattimers = lent .mattimers; matcells = lent .matcells; held = lent .held; padtimers = lent .padtimers; padcells = lent .padcells; numbers = lent .numbers; datalives = lent .datalives; datacells = lent .datacells; firsts = lent .firsts; lasts = lent .lasts; replylives = lent .replylives })
+    ≡ linkOf l n lent
+same-marks l n lent oldest marks e = ap (λ (m : Mat). linkOf l n (record { marks = m .marks; mattimers = lent .mattimers; matcells = lent .matcells; held = lent .held; padtimers = lent .padtimers; padcells = lent .padcells; numbers = lent .numbers; datalives = lent .datalives; datacells = lent .datacells; firsts = lent .firsts; lasts = lent .lasts; replylives = lent .replylives })) e
+
+pub same-replies : (l : Limits) (n : Numbers) (lent : Arrays) (count : ℕ) (firsts lasts lives : List ℕ)
+    → replyTable count firsts lasts lives ≡ replyTable (n .replies) (lent .firsts) (lent .lasts) (lent .replylives)
+    → linkOf l n (record { marks = lent .marks; mattimers = lent .mattimers; matcells = lent .matcells; held = lent .held; padtimers = lent .padtimers; padcells = lent .padcells; numbers = lent .numbers; datalives = lent .datalives; datacells = lent .datacells; firsts = firsts; lasts = lasts; replylives = lives })
+    ≡ linkOf l n lent
+same-replies l n lent count firsts lasts lives e = ap (λ (t : ReplyTable). linkOf l n (record { marks = lent .marks; mattimers = lent .mattimers; matcells = lent .matcells; held = lent .held; padtimers = lent .padtimers; padcells = lent .padcells; numbers = lent .numbers; datalives = lent .datalives; datacells = lent .datacells; firsts = t .firsts; lasts = t .lasts; replylives = t .lives })) e

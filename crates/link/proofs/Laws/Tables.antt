@@ -4,7 +4,7 @@ use mathlib.Core.Path.{_≡_, refl, _∙_, ap, ap₂}
 use mathlib.Core.Bool.{Bool, true}
 use mathlib.Core.List.{List}
 use native.Mathlib.Omega.{arith}
-use lib.Dec.{eqb}
+use lib.Dec.{eqb, ltb}
 use lib.ListN.{length}
 use borrow.Author.Tests.{lt-ltb}
 use Rattle.limits.specs.declared.Limits.{Limits}
@@ -12,17 +12,19 @@ use Rattle.limits.specs.declared.answer.Answer.{Answer}
 use Rattle.limits.specs.declared.answer.Answer.the-variants.{Done}
 use Rattle.limits.specs.Answer.{numberOf}
 use Rattle.limits.specs.Questions.{pick, Question, firstNo, Called}
-use Rattle.limits.specs.Tables.{Data, Reply, put, remove, soundData, soundReply}
+use Rattle.limits.specs.Tables.{Data, Reply, capacity, put, remove, soundData, soundReply}
 use Rattle.limits.specs.Events.{loseData, loseReply}
+use Rattle.limits.proofs.Laws.Lists.{length-tab}
 use Rattle.limits.proofs.Laws.Choice.{both, pick-yes}
 use Rattle.limits.proofs.Laws.Good.{good, in-between}
 use Rattle.limits.specs.Limits.{soundLimits}
-use Rattle.limits.proofs.Laws.Promise.{called-done, done-of}
-use Rattle.mat.specs.declared.Mat.{Mat}
-use Rattle.mat.specs.View.{matState, soundMat}
+use Rattle.limits.proofs.Laws.Promise.{done-of}
+use Rattle.mat.specs.View.{matState}
 use Rattle.pad.specs.declared.Pad.{Pad}
 use Rattle.pad.specs.View.{padState, soundPad}
+use Rattle.air.specs.declared.datatable.DataTable.{DataTable}
 use Rattle.air.specs.declared.datatable.DataAnswer.{DataAnswer}
+use Rattle.air.specs.declared.replytable.ReplyTable.{ReplyTable}
 use Rattle.air.specs.declared.replytable.ReplyAnswer.{ReplyAnswer}
 use Rattle.air.specs.Rules.{roomQuestions, placeQuestions, soundMessage}
 use Rattle.air.specs.Data.{dataMessages, soundDataMessage, DataCall}
@@ -30,7 +32,7 @@ use Rattle.air.specs.Replies.{replyMessages, soundReplyMessage, ReplyCall}
 use Rattle.link.specs.declared.Link.{Link}
 use Rattle.link.specs.declared.Progress.{Progress}
 use Rattle.link.specs.State.{LinkState, noCounts, unmoved}
-use Rattle.link.specs.Rules.{sentOut, oldTaken, newTaken}
+use Rattle.link.specs.Rules.{oldTaken, newTaken}
 use Rattle.link.specs.View.{linkState, soundLink, shown, Moves}
 use Rattle.link.proofs.Laws.Parts.{Parts, whole}
 use Rattle.link.proofs.Laws.Opening.{pick-under}
@@ -44,6 +46,28 @@ full-data l x g e = let h = good l g in both _ _ (in-between 1 (l .datalife) (l 
 pub full-reply : (l : Limits) (x : Reply) → soundLimits l ≡ true → soundReply l x ≡ true → soundReplyMessage l (record { body = x; life = l .replylife }) ≡ true
 unfolding soundMessage
 full-reply l x g e = let h = good l g in both _ _ (in-between 1 (l .replylife) (l .replylife) (omega arith) (omega arith)) e
+
+data-length : (t : DataTable) → length (dataMessages t) ≡ t .count
+unfolding dataMessages
+data-length t = length-tab (t .count) _
+
+reply-length : (t : ReplyTable) → length (replyMessages t) ≡ t .count
+unfolding replyMessages
+reply-length t = length-tab (t .count) _
+
+-- what the counts tell of the tables
+module _ (t : DataTable) where
+  pub data-found : (p : ℕ) → p < t .count → p < length (dataMessages t)
+  data-found p h = rw (data-length t) h
+
+  pub data-below : (p : ℕ) → p < length (dataMessages t) → p < t .count
+  data-below p h = rw (data-length t) at h
+
+  pub data-room : (b : Bool) → ltb (t .count) capacity ≡ b → ltb (length (dataMessages t)) capacity ≡ b
+  data-room b e = rw (data-length t) e
+
+pub reply-room : (t : ReplyTable) (b : Bool) → ltb (t .count) capacity ≡ b → ltb (length (replyMessages t)) capacity ≡ b
+reply-room t b e = rw (reply-length t) e
 
 -- place p was found, so removing it is done
 pub place-found : {A : Type 0} (p : ℕ) (ms : List A) → p < length ms → firstNo (placeQuestions p ms) ≡ 0
@@ -96,35 +120,6 @@ module _ (k : Link) (p : Parts k) where
       (λ ms. record { limits = k .limits; mat = matState (k .limits .window) (k .mat); pad = padState (k .limits .window) (k .pad); datas = dataMessages (k .datas); replies = ms })
       r b c s refl refl (p .replies)
       (λ h. whole _ (record { limits = p .limits; mat = p .mat; pad = p .pad; datas = p .datas; replies = h }))
-
-  -- the mat's message is in the air
-  pub sent-done : (m : Mat) (number : ℕ) (row : List ℕ) (sent : ℕ) (into : DataAnswer) (b : List ℕ) → soundMat (k .limits) m ≡ true
-      → DataCall (k .limits) (k .datas) (roomQuestions 13 (dataMessages (k .datas)))
-      (put (record { body = record { number = number; row = row }; life = k .limits .datalife }) (dataMessages (k .datas))) into
-      → numberOf (into .answer) ≡ 0
-      → Called (roomQuestions 13 (dataMessages (k .datas))) (into .answer)
-      (record {
-        state = linkState (record { limits = k .limits; mat = m; pad = k .pad; datas = into .table; replies = k .replies });
-        counts = record { sent = sent; acknowledged = 0; recorded = 0 };
-        buffer = b;
-      })
-      (record {
-        state = sentOut (linkState k) (record { state = matState (k .limits .window) m; message = record { number = number; row = row } });
-        counts = record { sent = sent; acknowledged = 0; recorded = 0 };
-        buffer = b;
-      })
-      (unmoved (linkState k) b) soundLink k (record { limits = k .limits; mat = m; pad = k .pad; datas = into .table; replies = k .replies })
-  unfolding linkState
-  sent-done m number row sent into b h c e =
-      called-done _ _ _ _ _ (c .answers .number) _ _ _ e
-      (ap
-      (λ ms. record {
-        state = record { limits = k .limits; mat = matState (k .limits .window) m; pad = padState (k .limits .window) (k .pad); datas = ms; replies = replyMessages (k .replies) };
-        counts = record { sent = sent; acknowledged = 0; recorded = 0 };
-        buffer = b;
-      })
-      (done-of _ _ _ _ _ (c .answers) e))
-      (whole _ (record { limits = p .limits; mat = h; pad = p .pad; datas = c .keeps .stays (p .datas); replies = p .replies }))
 
   -- data message n left the table
   module _ (n : ℕ) (left : DataAnswer) (found : n < length (dataMessages (k .datas)))

@@ -20,7 +20,7 @@ use Rattle.rows.proofs.Laws.Places.{span-place, length-span}
 use Rattle.mat.specs.declared.Mat.{Mat}
 use Rattle.mat.specs.Window.{Kept, rowOf}
 use Rattle.mat.specs.Rules.{marked, passing, Acknowledging}
-use Rattle.mat.specs.View.{outstandingOf, markAt, cellsAt, matState, soundMat}
+use Rattle.mat.specs.View.{matOf, outstandingOf, markAt, cellsAt, matState, soundMat}
 use Rattle.mat.proofs.Laws.Sound.{Numbers, Facts, sound-of}
 use Rattle.mat.proofs.Laws.Resend.{out-shown, row-shown}
 
@@ -88,6 +88,10 @@ module _ (w : ℕ) (m : Mat) (start count : ℕ) (low : 1 ≤ w) (high : w ≤ 3
       ∙ leading-agree (λ (b : Bool). b) (λ (b : Bool). b) (outstandingOf w m) _ _
       (λ i h. ap₂ (λ xs p. getD xs p false) (s ∙ ap (λ x. spanSet w x count true (m .marks)) a) (ap (λ x. (x + i) % w) q ∙ mod-add-mod (m .oldest) w i))
       ∙ sym run-is
+
+-- at most all that were looked at were counted
+pub run-most : (passed out : ℕ) (f : ℕ → Bool) → passed ≡ leading (λ (b : Bool). b) (tab out f) → passed ≤ out
+run-most passed out f e = let h = leading-most (λ (b : Bool). b) (tab out f) in let k = length-tab out f in omega arith
 
 -- a mark after the front was passed
 module _ (w : ℕ) (m : Mat) (marks : List Bool) (passed : ℕ) (low : 1 ≤ w) (fits : passed ≤ w) (long : w ≤ length marks) where
@@ -205,13 +209,13 @@ module _ (l : Limits) (m : Mat) (start count : ℕ) (f : Facts l m) (some : 1 �
   module _ (span front oldest : ℕ) (set cleared : List Bool) (a : span ≡ (m .oldest + start) % l .window) (b : front ≡ (m .oldest + 0) % l .window)
       (c : set ≡ spanSet (l .window) span count true (m .marks)) (d : cleared ≡ spanSet (l .window) front passed false set)
       (e : oldest ≡ step (2 * l .window) (m .oldest) passed) where
-    as-acknowledged : record { oldest = oldest; next = m .next; marks = cleared; timers = m .timers; cells = m .cells }
+    as-acknowledged : matOf oldest (m .next) cleared (m .timers) (m .cells)
         ≡ acknowledged (l .window) m start count passed
     as-acknowledged = rw (d, c, a, b, e)
 
-    pub marked-sound : soundMat l (record { oldest = oldest; next = m .next; marks = cleared; timers = m .timers; cells = m .cells }) ≡ true
+    pub marked-sound : soundMat l (matOf oldest (m .next) cleared (m .timers) (m .cells)) ≡ true
     marked-sound = ap (soundMat l) as-acknowledged ∙ acknowledged-sound
 
-    pub marked-shown : record { state = matState (l .window) (record { oldest = oldest; next = m .next; marks = cleared; timers = m .timers; cells = m .cells }); passed = passed }
+    pub marked-shown : record { state = matState (l .window) (matOf oldest (m .next) cleared (m .timers) (m .cells)); passed = passed }
         ≡ passing l (matState (l .window) m) start count
     marked-shown = ap (λ x. record { state = matState (l .window) x; passed = passed }) as-acknowledged ∙ acknowledged-shown

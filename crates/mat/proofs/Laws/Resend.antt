@@ -2,6 +2,7 @@
 use Prim.Native.Nat.{ℕ, _+_, _-_, _*_, _%_, _≤_, _<_}
 use mathlib.Core.Path.{_≡_, sym, _∙_, ap, ap₂}
 use mathlib.Core.Bool.{Bool, true, false, not}
+use mathlib.Core.List.{List}
 use native.Mathlib.Omega.{arith}
 use native.Mathlib.Nat.{add-mod-right}
 use lib.Dec.{ltb}
@@ -16,7 +17,7 @@ use Rattle.rows.proofs.Laws.Places.{set-place}
 use Rattle.mat.specs.declared.Mat.{Mat}
 use Rattle.mat.specs.Window.{Kept, noRow, outstanding, rowOf, timerPlace}
 use Rattle.mat.specs.Rules.{resending}
-use Rattle.mat.specs.View.{outstandingOf, markAt, cellsAt, matState, soundMat}
+use Rattle.mat.specs.View.{matOf, outstandingOf, markAt, cellsAt, matState, soundMat}
 use Rattle.mat.proofs.Laws.Sound.{Numbers, Facts, sound-of, set-most}
 
 pub out-shown : (w : ℕ) (m : Mat) → outstanding (matState w m) ≡ outstandingOf w m
@@ -95,6 +96,17 @@ module _ (l : Limits) (m : Mat) (k number at : ℕ) (f : Facts l m) (h : k < out
         timers = set-most (m .timers) (l .window) at (l .resendwait) (l .resendwait) (let g = f .limits in omega arith) (omega arith) (f .timers);
         cells = f .cells;
       })
+
+  -- the mat and the row that the code makes
+  module _ (timed row : List ℕ) (t : timed ≡ set (m .timers) at (l .resendwait)) (r : row ≡ rowAt (m .cells) at) where
+    pub timed-sound : soundMat l (matOf (m .oldest) (m .next) (m .marks) timed (m .cells)) ≡ true
+    timed-sound = rw t timing-sound
+
+    pub timed-shown : record { state = matState (l .window) (matOf (m .oldest) (m .next) (m .marks) timed (m .cells)); message = record { number = number; row = row } }
+        ≡ resending l (matState (l .window) m) k
+    timed-shown =
+        ap₂ (λ ts x. record { state = matState (l .window) (matOf (m .oldest) (m .next) (m .marks) ts (m .cells)); message = record { number = number; row = x } }) t r
+        ∙ timing-shown
 
 -- the tests of how many rows are outstanding, on the distance that the code takes
 pub room-yes : (w : ℕ) (m : Mat) (d : ℕ) → d ≡ outstandingOf w m → d < w → ltb (outstanding (matState w m)) w ≡ true

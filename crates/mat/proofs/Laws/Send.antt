@@ -21,7 +21,7 @@ use Rattle.rows.proofs.Laws.Places.{set-place}
 use Rattle.mat.specs.declared.Mat.{Mat}
 use Rattle.mat.specs.Window.{Kept, MatState}
 use Rattle.mat.specs.Rules.{Sending, sending}
-use Rattle.mat.specs.View.{outstandingOf, markAt, cellsAt, matState, soundMat}
+use Rattle.mat.specs.View.{matOf, outstandingOf, markAt, cellsAt, matState, soundMat}
 use Rattle.mat.proofs.Laws.Sound.{Numbers, Facts, sound-of, set-most}
 
 -- the mat with `row` at the place of next, its timer at `wait`, and next one further
@@ -133,18 +133,17 @@ module _ (l : Limits) (m : Mat) (row : List ℕ) (f : Facts l m) (fits : outstan
       })
 
   -- the mat that the code makes, field by field
-  module _ (next at : ℕ) (stored : List ℕ) (a : at ≡ m .next % l .window) (n : next ≡ step (2 * l .window) (m .next) 1)
-      (s : stored ≡ written (16 * at) row (m .cells)) where
-    as-kept : record { oldest = m .oldest; next = next; marks = m .marks; timers = set (m .timers) at (l .resendwait); cells = stored }
-        ≡ keeping (l .window) (l .resendwait) m row
-    as-kept = rw (s, a, n)
+  module _ (next at : ℕ) (timed stored : List ℕ) (a : at ≡ m .next % l .window) (n : next ≡ step (2 * l .window) (m .next) 1)
+      (t : timed ≡ set (m .timers) at (l .resendwait)) (s : stored ≡ written (16 * at) row (m .cells)) where
+    as-kept : matOf (m .oldest) next (m .marks) timed stored ≡ keeping (l .window) (l .resendwait) m row
+    as-kept = rw (t, s, a, n)
 
     pub kept-sound : legalRow row ≡ true
-        → soundMat l (record { oldest = m .oldest; next = next; marks = m .marks; timers = set (m .timers) at (l .resendwait); cells = stored }) ≡ true
+        → soundMat l (matOf (m .oldest) next (m .marks) timed stored) ≡ true
     kept-sound legal = ap (soundMat l) as-kept ∙ keeping-sound legal
 
     pub kept-shown : record {
-      state = matState (l .window) (record { oldest = m .oldest; next = next; marks = m .marks; timers = set (m .timers) at (l .resendwait); cells = stored });
+      state = matState (l .window) (matOf (m .oldest) next (m .marks) timed stored);
       message = record { number = m .next; row = row };
     }
         ≡ sending l (matState (l .window) m) row

@@ -1,19 +1,18 @@
 -- A row stored at its place is the window's row of that distance.
-use Prim.Native.Nat.{ℕ, _+_, _*_, _%_, _≤_, _<_}
+use Prim.Native.Nat.{ℕ, _+_, _*_, _%_, _<_}
 use mathlib.Core.Path.{_≡_, refl, sym, _∙_, ap}
 use mathlib.Core.Bool.{true, false}
 use mathlib.Core.List.{List}
 use native.Mathlib.Omega.{arith}
 use native.Mathlib.Nat.{mod-lt}
 use lib.Dec.{eqb}
-use borrow.Author.Tests.{eqb-true, eqb-false, eq-eqb, ne-eqb, lt-ltb, le-ltb}
+use borrow.Author.Tests.{eqb-true, eqb-false, eq-eqb, ne-eqb}
 use lib.ListN.{length, getD, set}
 use lib.Seq.{getD-set-same, getD-set-other}
 use Rattle.limits.specs.declared.Limits.{Limits}
 use Rattle.limits.specs.Cells.{legalRow}
 use Rattle.limits.specs.Questions.{pick}
 use Rattle.limits.specs.Ring.{distance, place}
-use Rattle.limits.specs.Tables.{Data}
 use Rattle.limits.proofs.Laws.Choice.{test, pick-yes, pick-no, pick-cases}
 use Rattle.limits.proofs.Laws.Good.{Good, good}
 use Rattle.limits.proofs.Laws.Lists.{tab-ext, set-tab}
@@ -21,8 +20,8 @@ use Rattle.limits.proofs.Laws.Ring.{place-inj, place-at-distance}
 use Rattle.rows.specs.Arrays.{written}
 use Rattle.rows.proofs.Laws.Cells.{written-same, written-other}
 use Rattle.pad.specs.declared.Pad.{Pad}
-use Rattle.pad.specs.Window.{full, noReply}
-use Rattle.pad.specs.Rules.{held, arrival}
+use Rattle.pad.specs.Window.{full}
+use Rattle.pad.specs.Rules.{holding}
 use Rattle.pad.specs.View.{slotAt, padState, soundSlot, soundPad}
 use Rattle.pad.proofs.Laws.Slots.{Sized, slot-full, slot-same}
 use Rattle.pad.proofs.Laws.Sound.{Facts, sound-of}
@@ -73,7 +72,7 @@ module _ (l : Limits) (p : Pad) (number at : ℕ) (row : List ℕ) (g : Good l) 
   stored-slot i h = let a = at-low in stored-at p at (l .replywait) row s (omega arith) n i (omega arith)
 
   stored-state : distance (2 * l .window) (p .wanted) number < l .window
-      → padState (l .window) (stored p at (l .replywait) row) ≡ held l (padState (l .window) p) (record { number = number; row = row })
+      → padState (l .window) (stored p at (l .replywait) row) ≡ holding l (padState (l .window) p) (record { number = number; row = row })
   unfolding padState
   stored-state h =
       ap (λ xs. record { wanted = p .wanted; slots = xs })
@@ -97,18 +96,7 @@ module _ (l : Limits) (p : Pad) (number at : ℕ) (row : List ℕ) (g : Good l) 
             ∙ pick-cases (λ x. soundSlot x ≡ true) (eqb i at) (full (l .replywait) row) (slotAt p i) (λ _. legal) (λ _. f .rows i h);
       })
 
-  -- a row of the window arrives
-  module _ (after : Pad) (is : after ≡ stored p at (l .replywait) row) where
-    pub arrived-new : distance (2 * l .window) (p .wanted) number < l .window
-        → record { state = padState (l .window) after; old = false; reply = noReply } ≡ arrival l (padState (l .window) p) (record { number = number; row = row })
-    unfolding arrival padState
-    arrived-new h = ap (λ x. record { state = x; old = false; reply = noReply }) (ap (padState (l .window)) is ∙ stored-state h) ∙ sym (pick-yes _ _ _ _ (lt-ltb _ _ h) refl)
-
-    pub arrived-sound : legalRow row ≡ true → soundPad l after ≡ true
-    arrived-sound h = rw is (stored-sound h)
-
--- an old row arrives
-pub arrived-old : (l : Limits) (p : Pad) (x : Data) → l .window ≤ distance (2 * l .window) (p .wanted) (x .number)
-    → record { state = padState (l .window) p; old = true; reply = record { first = x .number; last = x .number } } ≡ arrival l (padState (l .window) p) x
-unfolding arrival padState
-arrived-old l p x h = sym (pick-no _ _ _ _ (le-ltb _ _ h) refl)
+  -- what holding the row gives
+  pub row-held : (after : Pad) → after ≡ stored p at (l .replywait) row → legalRow row ≡ true → distance (2 * l .window) (p .wanted) number < l .window
+      → (soundPad l after ≡ true) × (padState (l .window) after ≡ holding l (padState (l .window) p) (record { number = number; row = row }))
+  row-held after is legal h = (rw is (stored-sound legal), ap (padState (l .window)) is ∙ stored-state h)

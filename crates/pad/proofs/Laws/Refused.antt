@@ -1,14 +1,19 @@
 -- The questions of a reply, and what calls show that hand everything back.
 use Prim.Native.Nat.{ℕ, _*_, _≤_, _<_}
 use mathlib.Core.Path.{_≡_, refl, sym, _∙_, ap}
-use mathlib.Core.Bool.{Bool, true, false}
-use mathlib.Core.List.{List}
-use lib.Dec.{leb, ltb}
-use borrow.Author.Tests.{lt-ltb, le-ltb, le-leb, lt-leb}
-use Rattle.limits.specs.Questions.{firstNo}
+use mathlib.Core.Bool.{true, false}
+use mathlib.Core.List.{List, [], _∷_}
+use lib.Dec.{eqb, leb, ltb}
+use borrow.Author.Tests.{ltb-true, lt-ltb, le-ltb, le-leb, lt-leb}
+use Rattle.limits.specs.declared.answer.Answer.{Answer}
+use Rattle.limits.specs.Answer.{numberOf}
+use Rattle.limits.specs.Lists.{all}
+use Rattle.limits.specs.Questions.{ask, firstNo, Answers}
 use Rattle.limits.proofs.Laws.Choice.{pick-yes, pick-no}
+use Rattle.limits.proofs.Laws.Promise.{none-no, done-of}
+use Rattle.limits.proofs.Laws.Questions.{each, more-stays}
 use Rattle.pad.specs.declared.Pad.{Pad}
-use Rattle.pad.specs.Rules.{run, runQuestions, replyQuestions, noArrival, notReplying}
+use Rattle.pad.specs.Rules.{run, runQuestions, replyQuestions, notReplying}
 use Rattle.pad.specs.View.{padState}
 
 -- n is the run
@@ -35,15 +40,18 @@ module _ (w : ℕ) (p : Pad) (n : ℕ) (is : n ≡ run (padState w p)) where
     pub reply-full : 0 < n → space < 16 * n → 21 ≡ firstNo (replyQuestions (padState w p) space)
     reply-full h k = sym (pick-yes _ _ _ _ (ready-yes h) (pick-no _ _ _ _ (room ∙ lt-leb (16 * n) space k) refl))
 
-    pub reply-none : n ≤ 0 → 20 ≡ firstNo (replyQuestions (padState w p) space)
-    reply-none h = sym (pick-no _ _ _ _ (ready-no h) refl)
+-- what the answer of a run says of the reply's questions
+module _ (w : ℕ) (p : Pad) (a : Answer) (n : ℕ) (r : Answers (runQuestions (padState w p)) a n (run (padState w p)) 0) where
+  pub run-found : numberOf a ≡ 0 → (0 < run (padState w p)) × (n ≡ run (padState w p))
+  unfolding all
+  run-found e =
+      let z = none-no (runQuestions (padState w p)) a n (run (padState w p)) 0 r e in
+      (ltb-true 0 (run (padState w p)) (each (runQuestions (padState w p)) refl z .0), done-of (runQuestions (padState w p)) a n (run (padState w p)) 0 r e)
 
-module _ (w : ℕ) (p after : Pad) (first last : ℕ) (e : after ≡ p) (f : first ≡ 0) (t : last ≡ 0) where
-  pub not-arrived : (old : Bool) → old ≡ false
-      → record { state = padState w after; old = old; reply = record { first = first; last = last } } ≡ noArrival (padState w p)
-  not-arrived old o = λ i. record { state = padState w (e i); old = o i; reply = record { first = f i; last = t i } }
+  pub run-refused : (space : ℕ) → eqb (numberOf a) 0 ≡ false → numberOf a ≡ firstNo (replyQuestions (padState w p) space)
+  run-refused space e = more-stays (runQuestions (padState w p)) (numberOf a) (r .number) (ask 21 (leb (16 * run (padState w p)) space) ∷ []) e
 
-  pub not-replied : (count : ℕ) (buffer : List ℕ) → count ≡ 0
-      → record { state = padState w after; count = count; reply = record { first = first; last = last }; buffer = buffer } ≡ notReplying (padState w p) buffer
-  not-replied count buffer n =
-      λ i. record { state = padState w (e i); count = n i; reply = record { first = f i; last = t i }; buffer = buffer }
+pub not-replied : (w : ℕ) (p after : Pad) (first last : ℕ) → after ≡ p → first ≡ 0 → last ≡ 0 → (count : ℕ) (buffer : List ℕ) → count ≡ 0
+    → record { state = padState w after; count = count; reply = record { first = first; last = last }; buffer = buffer } ≡ notReplying (padState w p) buffer
+not-replied w p after first last e f t count buffer n =
+    λ i. record { state = padState w (e i); count = n i; reply = record { first = f i; last = t i }; buffer = buffer }

@@ -4,7 +4,7 @@ use mathlib.Core.Path.{_≡_, sym, _∙_, ap}
 use mathlib.Core.Bool.{Bool, true, false, _&&_}
 use mathlib.Core.List.{List, map}
 use native.Mathlib.Omega.{arith}
-use native.Mathlib.Nat.{mod-lt, mod-add-mod}
+use native.Mathlib.Nat.{mod-add-mod}
 use lib.Dec.{ltb}
 use lib.ListN.{getD, take}
 use Rattle.limits.specs.Cells.{rowAt}
@@ -68,14 +68,13 @@ module _ (w : ℕ) (p : Pad) (h : 1 ≤ w) where
       ∙ sym (map-tab contents (run (padState w p)) (λ i. slotAt p ((p .wanted + i) % w)))
       ∙ ap (map contents) (sym (take-tab (run (padState w p)) w (λ i. slotAt p ((p .wanted + i) % w)) run-most)))
 
--- what a sound pad is known to satisfy, with the place of wanted and the run
+-- what a sound pad is known to satisfy, with the run
 pub record Known (l : Limits) (p : Pad) : Type 0 where
   pub good : Good l
   pub facts : Facts l p
-  pub place-low : p .wanted % l .window < l .window
   pub run-low : run (padState (l .window) p) ≤ l .window
 
 pub known : (l : Limits) (p : Pad) → soundLimits l ≡ true → soundPad l p ≡ true → Known l p
 known l p h k =
     let g = good l h in
-    record { good = g; facts = facts l p k; place-low = mod-lt (p .wanted) (omega arith); run-low = run-most (l .window) p (g .window-low) }
+    record { good = g; facts = facts l p k; run-low = run-most (l .window) p (g .window-low) }

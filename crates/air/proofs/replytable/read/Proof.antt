@@ -1,5 +1,5 @@
-use mathlib.Core.Path.{sym, _∙_}
 use borrow.Author.Needs.{needs}
+use mathlib.Core.Path.{sym, _∙_}
 use Rattle.limits.proofs.Laws.Promise.{answers-sound, answers-unsound}
 use Rattle.limits.proofs.Laws.Choice.{two}
 use Rattle.air.proofs.replytable.read.Statement.{statement}
@@ -9,13 +9,13 @@ sound-requires : tie.Need-sound-requires
 sound-requires c κs = search needs
 
 read-requires : tie.Need-read-requires
-read-requires c κs = two _ _ (sym (c .before .sound .ensures) ∙ c .if1 .taken)
+read-requires c κs = two _ _ (sym (c .before .before .before .before .before .before .before .sound .ensures) ∙ c .before .before .before .before .before .before .if1 .taken)
 
 unread-requires : tie.Need-unread-requires
 unread-requires c κs = search needs
 
 returns : tie.Need-returns
-returns c = answers-sound _ _ _ _ _ _ (sym (c .before .before .sound .ensures) ∙ c .before .if1 .taken) (c .read .ensures)
+returns c = answers-sound _ _ _ _ _ _ (sym (c .before .before .before .before .before .before .before .before .sound .ensures) ∙ c .before .before .before .before .before .before .before .if1 .taken) (c .read .ensures)
 
 returns-2 : tie.Need-returns-2
 returns-2 c = answers-unsound _ _ _ _ _ _ (sym (c .before .before .sound .ensures) ∙ c .before .if1 .left) (c .unread .ensures .0) (c .unread .ensures .1)

@@ -1,7 +1,7 @@
 use Prim.Native.Nat.{_<_}
+use borrow.Author.Needs.{needs}
 use mathlib.Core.Path.{refl}
 use native.Mathlib.Omega.{arith}
-use borrow.Author.Needs.{needs}
 use Rattle.limits.proofs.Laws.Promise.{called-done, called-refused}
 use Rattle.air.specs.Data.{dataMessages, soundDataTable}
 use Rattle.air.proofs.Laws.Data.{number-below, data-put}
@@ -9,32 +9,35 @@ use Rattle.air.proofs.Laws.Sound.{room-passed, room-refused, leaves, pu
 use Rattle.air.proofs.sounddata.put.Statement.{statement}
 use Rattle.air.proofs.sounddata.put.Tie as tie
 
-cast-next : tie.Need-cast-next
-cast-next c = let h = number-below _ _ (c .before .before .pre .0) (c .before .before .pre .2) in omega arith
+lengths-requires : tie.Need-lengths-requires
+lengths-requires c κs = search needs
 
-mul-next : tie.Need-mul-next
-mul-next c = search needs
+cast-numbers : tie.Need-cast-numbers
+cast-numbers c = let h = number-below _ _ (c .before .before .before .before .before .before .before .before .before .pre .0) (c .before .before .before .before .before .before .before .before .before .pre .2) in omega arith
 
-element-write-next : tie.Need-element-write-next
-element-write-next c = search needs
+mul-numbers : tie.Need-mul-numbers
+mul-numbers c = search needs
 
-mul-next-2 : tie.Need-mul-next-2
-mul-next-2 c = search needs
+element-write-numbers : tie.Need-element-write-numbers
+element-write-numbers c = search needs
 
-element-write-next-2 : tie.Need-element-write-next-2
-element-write-next-2 c = search needs
+mul-lives : tie.Need-mul-lives
+mul-lives c = search needs
+
+element-write-lives : tie.Need-element-write-lives
+element-write-lives c = search needs
 
 store-requires : tie.Need-store-requires
 store-requires c κs = search needs
 
-add-next : tie.Need-add-next
-add-next c = search needs
+add-t18 : tie.Need-add-t18
+add-t18 c = search needs
 
 returns : tie.Need-returns
 unfolding dataMessages soundDataTable
-returns c = let k : c .before .before .before .before .before .args .t .count < 32 = omega arith in
-    let e = data-put (c .before .before .before .before .before .args .t .numbers) (c .before .before .before .before .before .args .t .lives) (c .before .before .before .before .before .args .t .cells) (search needs) (search needs) (search needs) _ _ _ _ _ (c .store .ensures) k (search needs) in
-    called-done _ _ _ _ _ (room-passed _ _ 13 k) _ _ _ refl e (leaves _ _ _ _ e (put-sound _ _ _ _ _ (c .before .before .before .before .before .pre .1) (c .before .before .before .before .before .pre .2) k))
+returns c = let s = c .before .before .before .before .before .before .before .before .before .before .before .before in let k : s .args .count < 32 = omega arith in
+    let e = data-put (s .args .numbers .now) (s .args .lives .now) (s .args .cells .now) (search needs) (search needs) (search needs) _ _ _ _ _ (c .store .ensures) k (search needs) in
+    called-done _ _ _ _ _ (room-passed _ _ 13 k) _ _ _ refl e (leaves _ _ _ _ e (put-sound _ _ _ _ _ (s .pre .1) (s .pre .2) k))
 
 returns-2 : tie.Need-returns-2
 unfolding dataMessages
@@ -44,12 +47,13 @@ pub put-spec : {M : Type 1} → statement M
 put-spec =
     tie.close
     (tie.spec
-    cast-next
-    mul-next
-    element-write-next
-    mul-next-2
-    element-write-next-2
+    lengths-requires
+    cast-numbers
+    mul-numbers
+    element-write-numbers
+    mul-lives
+    element-write-lives
     store-requires
-    add-next
+    add-t18
     returns
     returns-2)

@@ -1,7 +1,7 @@
 use Prim.Native.Nat.{_<_}
+use borrow.Author.Needs.{needs}
 use mathlib.Core.Path.{refl}
 use native.Mathlib.Omega.{arith}
-use borrow.Author.Needs.{needs}
 use Rattle.limits.proofs.Laws.Promise.{called-done, called-refused}
 use Rattle.air.specs.Replies.{replyMessages, soundReplyTable}
 use Rattle.air.proofs.Laws.Replies.{numbers-below, reply-put}
@@ -9,38 +9,41 @@ use Rattle.air.proofs.Laws.Sound.{room-passed, room-refused, leaves, pu
 use Rattle.air.proofs.soundreplies.put.Statement.{statement}
 use Rattle.air.proofs.soundreplies.put.Tie as tie
 
-cast-next : tie.Need-cast-next
-cast-next c = let h = numbers-below _ _ (c .before .before .pre .0) (c .before .before .pre .2) in omega arith
+lengths-requires : tie.Need-lengths-requires
+lengths-requires c κs = search needs
 
-mul-next : tie.Need-mul-next
-mul-next c = search needs
+cast-firsts : tie.Need-cast-firsts
+cast-firsts c = let h = numbers-below _ _ (c .before .before .before .before .before .before .before .before .before .pre .0) (c .before .before .before .before .before .before .before .before .before .pre .2) in omega arith
 
-element-write-next : tie.Need-element-write-next
-element-write-next c = search needs
+mul-firsts : tie.Need-mul-firsts
+mul-firsts c = search needs
 
-cast-next-2 : tie.Need-cast-next-2
-cast-next-2 c = let h = numbers-below _ _ (c .before .before .before .pre .0) (c .before .before .before .pre .2) in omega arith
+element-write-firsts : tie.Need-element-write-firsts
+element-write-firsts c = search needs
 
-mul-next-2 : tie.Need-mul-next-2
-mul-next-2 c = search needs
+cast-lasts : tie.Need-cast-lasts
+cast-lasts c = let h = numbers-below _ _ (c .before .before .before .before .before .before .before .before .before .before .pre .0) (c .before .before .before .before .before .before .before .before .before .before .pre .2) in omega arith
 
-element-write-next-2 : tie.Need-element-write-next-2
-element-write-next-2 c = search needs
+mul-lasts : tie.Need-mul-lasts
+mul-lasts c = search needs
 
-mul-next-3 : tie.Need-mul-next-3
-mul-next-3 c = search needs
+element-write-lasts : tie.Need-element-write-lasts
+element-write-lasts c = search needs
 
-element-write-next-3 : tie.Need-element-write-next-3
-element-write-next-3 c = search needs
+mul-lives : tie.Need-mul-lives
+mul-lives c = search needs
 
-add-next : tie.Need-add-next
-add-next c = search needs
+element-write-lives : tie.Need-element-write-lives
+element-write-lives c = search needs
+
+add-t17 : tie.Need-add-t17
+add-t17 c = search needs
 
 returns : tie.Need-returns
 unfolding replyMessages soundReplyTable
-returns c = let k : c .before .before .before .args .t .count < 32 = omega arith in
-    let e = reply-put (c .before .before .before .args .t .firsts) (c .before .before .before .args .t .lasts) (c .before .before .before .args .t .lives) (search needs) (search needs) (search needs) _ _ _ _ k in
-    called-done _ _ _ _ _ (room-passed _ _ 18 k) _ _ _ refl e (leaves _ _ _ _ e (put-sound _ _ _ _ _ (c .before .before .before .pre .1) (c .before .before .before .pre .2) k))
+returns c = let s = c .before .before .before .before .before .before .before .before .before .before in let k : s .args .count < 32 = omega arith in
+    let e = reply-put (s .args .firsts .now) (s .args .lasts .now) (s .args .lives .now) (search needs) (search needs) (search needs) _ _ _ _ k in
+    called-done _ _ _ _ _ (room-passed _ _ 18 k) _ _ _ refl e (leaves _ _ _ _ e (put-sound _ _ _ _ _ (s .pre .1) (s .pre .2) k))
 
 returns-2 : tie.Need-returns-2
 unfolding replyMessages
@@ -50,14 +53,15 @@ pub put-spec : {M : Type 1} → statement M
 put-spec =
     tie.close
     (tie.spec
-    cast-next
-    mul-next
-    element-write-next
-    cast-next-2
-    mul-next-2
-    element-write-next-2
-    mul-next-3
-    element-write-next-3
-    add-next
+    lengths-requires
+    cast-firsts
+    mul-firsts
+    element-write-firsts
+    cast-lasts
+    mul-lasts
+    element-write-lasts
+    mul-lives
+    element-write-lives
+    add-t17
     returns
     returns-2)

@@ -1,7 +1,7 @@
+use borrow.Author.Needs.{needs}
 use lib.Dec.{eqb}
 use mathlib.Core.Path.{refl, sym, _∙_, ap}
 use native.Mathlib.Omega.{arith}
-use borrow.Author.Needs.{needs}
 use Rattle.limits.proofs.Laws.Lists.{getD-tab}
 use Rattle.limits.proofs.Laws.Promise.{answers-done, answers-refused}
 use Rattle.limits.specs.Answer.{numberOf}

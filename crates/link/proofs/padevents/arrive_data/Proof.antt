@@ -1,28 +1,33 @@
 use borrow.Author.Needs.{needs}
 use Rattle.link.proofs.padevents.arrive_data.Statement.{statement}
 use Rattle.link.proofs.padevents.arrive_data.Tie as tie
-use mathlib.Core.Path.{_≡_, ap}
+use mathlib.Core.Path.{refl, sym, _∙_, ap}
 use mathlib.Core.Bool.{not, _||_}
 use mathlib.Core.List.{[], _∷_}
 use lib.Dec.{ltb}
 use lib.ListN.{length, getD}
+use borrow.Author.Tests.{ltb-true}
 use Rattle.limits.specs.Answer.{numberOf}
 use Rattle.limits.specs.Questions.{ask}
 use Rattle.limits.specs.Tables.{capacity}
 use Rattle.limits.proofs.Laws.Promise.{not-done}
 use Rattle.limits.proofs.Laws.Questions.{more-stays}
+use Rattle.limits.proofs.Laws.Messages.{message-low, message-legal}
 use Rattle.pad.specs.Rules.{arrival}
-use Rattle.pad.specs.View.{padState}
+use Rattle.pad.specs.View.{padOf, padState}
+use Rattle.pad.proofs.Laws.Calls.{arrive-new, arrive-old}
 use Rattle.air.specs.Rules.{placeQuestions}
-use Rattle.air.specs.Data.{dataMessages, noData}
-use Rattle.air.specs.Replies.{replyMessages}
+use Rattle.air.specs.Data.{dataTable, dataMessages, noData}
+use Rattle.air.specs.Replies.{replyTable, replyMessages}
 use Rattle.link.specs.View.{linkState}
 use Rattle.link.proofs.Laws.Parts.{parts}
-use Rattle.link.proofs.Laws.Stays.{stays-refused}
-use Rattle.link.proofs.Laws.Arriving.{place-there, read-sound, old-sound, old-arrives, new-arrives}
+use Rattle.link.proofs.Laws.Stays.{stayed-at, lent-refused}
+use Rattle.link.proofs.Laws.Messages.{data-there, data-read-sound}
+use Rattle.link.proofs.Laws.Tables.{data-below, new-taken}
+use Rattle.link.proofs.Laws.Arriving.{old-arrives, new-arrives}
 
 read-requires : tie.Need-read-requires
-read-requires c κs = let p = parts _ (c .before .before .pre) in (p .limits, p .datas)
+read-requires c κs = search needs
 
 enum-told : tie.Need-enum-told
 enum-told c = search needs
@@ -32,33 +37,42 @@ stays-requires c κs = search needs
 
 returns : tie.Need-returns
 unfolding linkState
-returns c = let t = c .before .before in let s = t .before .before .before in let k = s .args .k in
-    let z = not-done (t .read .result .answer) (c .before .match .keys2) in
-    λ supply buffer. stays-refused _ _ _ _ buffer _ (c .stays .ensures) (more-stays (placeQuestions (s .args .p) (dataMessages (k .datas))) _ (t .read .ensures .number) (ask 18 (not (arrival (k .limits) (padState (k .limits .window) (k .pad)) (getD (dataMessages (k .datas)) (s .args .p) noData .body) .old) || ltb (length (replyMessages (k .replies))) capacity) ∷ []) z) z
+returns c = let u = c .before .before .read in let s = c .before .before .before .before .before .before in let z = not-done (u .result .answer) (c .before .match .keys2) in
+    let t = dataTable (s .args .n .datas) (s .args .numbers .now) (s .args .datalives .now) (s .args .datacells .now) in
+    λ marks mattimers matcells supply b h. lent-refused _ _ _ _ _ _ _ b _ refl (c .stays .ensures) (more-stays (placeQuestions (s .args .p) (dataMessages t)) _ (u .ensures .number) (ask 18 (not (arrival (s .args .l) (padState (s .args .l .window) (padOf (s .args .n .wanted) (s .args .held .now) (s .args .padtimers .now) (s .args .padcells .now))) (getD (dataMessages t) (s .args .p) noData .body) .old) || ltb (length (replyMessages (replyTable (s .args .n .replies) (s .args .firsts .now) (s .args .lasts .now) (s .args .replylives .now)))) capacity) ∷ []) z) z
 
-arrive-requires : tie.Need-arrive-requires
-arrive-requires c κs = let t = c .before .before .before .before .before in let s = t .before .before .before in let p = parts _ (s .pre) in
-    (p .limits, p .pad, read-sound (s .args .k) p (s .args .p) (t .read .result) (t .read .ensures) (ap numberOf (c .before .before .before .enum-told .given .1)))
+in-window-requires : tie.Need-in-window-requires
+in-window-requires c κs = let s = c .before .before .before .before .before .before .before in let u = c .before .before .before .read in let t = dataTable (s .args .n .datas) (s .args .numbers .now) (s .args .datalives .now) (s .args .datacells .now) in
+    (s .pre .0, s .pre .1, message-low _ _ _ (data-read-sound _ t (s .args .p) (u .result) (u .ensures) (ap numberOf (c .before .enum-told .given .1)) (s .pre .2)))
+
+hold-requires : tie.Need-hold-requires
+hold-requires c κs = let s = c .before .before .before .before .before .before .before .before .before .before .before .before .before in let u = c .before .before .before .before .before .before .before .before .before .read in let t = dataTable (s .args .n .datas) (s .args .numbers .now) (s .args .datalives .now) (s .args .datacells .now) in
+    (s .pre .0, message-low _ _ _ (data-read-sound _ t (s .args .p) (u .result) (u .ensures) (ap numberOf (c .before .before .before .before .before .before .before .enum-told .given .1)) (s .pre .2)))
+
+remove-requires : tie.Need-remove-requires
+remove-requires c κs = search needs
+
+stays-requires-2 : tie.Need-stays-requires-2
+stays-requires-2 c κs = search needs
 
 take-old-requires : tie.Need-take-old-requires
-take-old-requires c κs = let a = c .before in let t = a .before .before .before .before .before .before in let s = t .before .before .before in let p = parts _ (s .pre) in
-    let e : numberOf (t .read .result .answer) ≡ 0 = ap numberOf (a .before .before .before .before .enum-told .given .1) in
-    (s .pre, place-there (s .args .k) p (s .args .p) (t .read .result) (t .read .ensures) e, old-sound (s .args .k) p (s .args .p) (t .read .result) (t .read .ensures) e (a .arrive .result) (a .arrive .ensures) (c .if1 .taken))
-
-take-new-requires : tie.Need-take-new-requires
-take-new-requires c κs = let a = c .before .before in let t = a .before .before .before .before .before .before in let s = t .before .before .before in let p = parts _ (s .pre) in
-    let e : numberOf (t .read .result .answer) ≡ 0 = ap numberOf (a .before .before .before .before .enum-told .given .1) in
-    (s .pre, place-there (s .args .k) p (s .args .p) (t .read .result) (t .read .ensures) e, a .arrive .ensures .keeps .stays (p .pad))
+take-old-requires c κs = let s = c .before .before .before .before .before .before .before .before .before .before .before .before .before .before .before in let u = c .before .before .before .before .before .before .before .before .before .before .before .read in let t = dataTable (s .args .n .datas) (s .args .numbers .now) (s .args .datalives .now) (s .args .datacells .now) in
+    let e = ap numberOf (c .before .before .before .before .before .before .before .before .before .enum-told .given .1) in
+    (s .pre .0, data-below t (s .args .p) (data-there (s .args .l) t (s .args .p) (u .result) (u .ensures) e), message-low _ _ _ (data-read-sound _ t (s .args .p) (u .result) (u .ensures) e (s .pre .2)), s .pre .2, s .pre .3)
 
 returns-2 : tie.Need-returns-2
-returns-2 c = let a = c .before .before in let t = a .before .before .before .before .before .before in let s = t .before .before .before in
-    let e : numberOf (t .read .result .answer) ≡ 0 = ap numberOf (a .before .before .before .before .enum-told .given .1) in
-    λ supply buffer. old-arrives (s .args .k) (parts _ (s .pre)) (s .args .p) (t .read .result) (t .read .ensures) e (a .arrive .result) (a .arrive .ensures) (c .before .if1 .taken) _ supply buffer (c .take-old .ensures buffer)
+returns-2 c = let s = c .before .before .before .before .before .before .before .before .before .before .before .before .before .before .before .before .before .before .before in let u = c .before .before .before .before .before .before .before .before .before .before .before .before .before .before .before .read in
+    let t = dataTable (s .args .n .datas) (s .args .numbers .now) (s .args .datalives .now) (s .args .datacells .now) in let told = c .before .before .before .before .before .before .before .before .before .before .before .before .before .enum-told .given .1 in
+    let near = ltb-true _ _ (sym (c .before .before .before .before .before .before .before .before .before .before .before .in-window .ensures) ∙ c .before .before .before .before .before .before .before .before .before .before .if1 .taken) in
+    let sound = data-read-sound (s .args .l) t (s .args .p) (u .result) (u .ensures) (ap numberOf told) (s .pre .2) in
+    λ marks mattimers matcells supply b h. let p = parts _ h in let held = c .before .before .before .before .before .hold .ensures (s .args .n .wanted) (p .pad) (message-legal _ _ _ sound) near in
+    let st = stayed-at _ _ _ _ _ (c .stays2 .ensures) in
+    new-arrives _ p _ (u .result) (u .ensures) (ap numberOf told) _ (arrive-new _ _ _ _ _ near held) _ supply b refl (new-taken _ p _ _ (data-there (s .args .l) t (s .args .p) (u .result) (u .ensures) (ap numberOf told)) (c .before .remove .ensures) _ _ (held .0) (st .0 ∙ told, st .1, st .2))
 
 returns-3 : tie.Need-returns-3
-returns-3 c = let a = c .before .before .before in let t = a .before .before .before .before .before .before in let s = t .before .before .before in
-    let e : numberOf (t .read .result .answer) ≡ 0 = ap numberOf (a .before .before .before .before .enum-told .given .1) in
-    λ supply buffer. new-arrives (s .args .k) (parts _ (s .pre)) (s .args .p) (t .read .result) (t .read .ensures) e (a .arrive .result) (a .arrive .ensures) _ supply buffer (c .before .before .if1 .left) (c .take-new .ensures)
+returns-3 c = let s = c .before .before .before .before .before .before .before .before .before .before .before .before .before .before .before .before in let u = c .before .before .before .before .before .before .before .before .before .before .before .before .read in
+    let told = c .before .before .before .before .before .before .before .before .before .before .enum-told .given .1 in
+    λ marks mattimers matcells supply b h. old-arrives _ (parts _ h) _ (u .result) (u .ensures) (ap numberOf told) _ (arrive-old _ _ _ _ (sym (c .before .before .before .before .before .before .before .before .in-window .ensures) ∙ c .before .before .before .before .before .before .before .if1 .left)) refl _ supply b (c .take-old .ensures marks (s .args .held .now) mattimers matcells (s .args .padtimers .now) (s .args .padcells .now) b h)
 
 pub arrive-data-spec : {M : Type 1} → statement M
 arrive-data-spec =
@@ -68,8 +82,10 @@ arrive-data-spec =
     enum-told
     stays-requires
     returns
-    arrive-requires
+    in-window-requires
+    hold-requires
+    remove-requires
+    stays-requires-2
     take-old-requires
-    take-new-requires
     returns-2
     returns-3)

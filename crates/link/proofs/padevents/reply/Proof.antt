@@ -1,19 +1,26 @@
 use borrow.Author.Needs.{needs}
 use Rattle.link.proofs.padevents.reply.Statement.{statement}
 use Rattle.link.proofs.padevents.reply.Tie as tie
-use mathlib.Core.Path.{_≡_, sym, refl, _∙_, ap}
+use mathlib.Core.Path.{refl, sym, _∙_, ap}
 use native.Mathlib.Omega.{arith}
+use lib.ListN.{length}
 use Rattle.limits.specs.Answer.{numberOf}
+use Rattle.limits.specs.Tables.{soundReply}
 use Rattle.limits.proofs.Laws.Promise.{not-done}
+use Rattle.pad.specs.Rules.{Replying}
+use Rattle.pad.specs.View.{padOf, padState}
+use Rattle.pad.proofs.Laws.Sound.{facts}
+use Rattle.pad.proofs.Laws.Messages.{replying-sound}
+use Rattle.pad.proofs.Laws.Calls.{reply-done}
+use Rattle.air.specs.Replies.{replyTable, replyMessages}
 use Rattle.link.specs.View.{linkState}
 use Rattle.link.proofs.Laws.Parts.{parts}
-use Rattle.link.proofs.Laws.Stays.{stays-refused}
-use Rattle.link.proofs.Laws.Replying.{nothing-ready, record-full, table-full, all-pass, count-is, some-ready, count-fits}
-use Rattle.pad.specs.View.{padState}
-use Rattle.air.specs.Replies.{replyMessages}
+use Rattle.link.proofs.Laws.Stays.{lent-refused}
+use Rattle.link.proofs.Laws.Tables.{full-reply, reply-room}
+use Rattle.link.proofs.Laws.Replying.{nothing-ready, record-full, table-full, all-pass, count-is, some-ready, count-fits, replies}
 
 run-length-requires : tie.Need-run-length-requires
-run-length-requires c κs = let p = parts _ (c .before .before .before .before .pre) in (p .limits, p .pad)
+run-length-requires c κs = let s = c .before .before in (s .pre .0, facts (s .args .l) (padOf (s .args .n .wanted) (s .args .held .now) (s .args .padtimers .now) (s .args .padcells .now)) (s .pre .1) .low)
 
 enum-told : tie.Need-enum-told
 enum-told c = search needs
@@ -23,24 +30,25 @@ stays-requires c κs = search needs
 
 returns : tie.Need-returns
 unfolding linkState
-returns c = let t = c .before .before in let k = t .before .before .before .before .before .args .k in
-    let z = not-done (t .run-length .result .answer) (c .before .match .keys2) in
-    stays-refused _ _ _ _ _ _ (c .stays .ensures) (nothing-ready (padState (k .limits .window) (k .pad)) _ (replyMessages (k .replies)) _ (t .run-length .ensures .number) z) z
+returns c = let u = c .before .before .run-length in let s = c .before .before .before .before .before in let z = not-done (u .result .answer) (c .before .match .keys2) in
+    λ marks mattimers matcells numbers datalives datacells h. lent-refused _ _ _ _ _ _ _ _ _ refl (c .stays .ensures) (nothing-ready (padState (s .args .l .window) (padOf (s .args .n .wanted) (s .args .held .now) (s .args .padtimers .now) (s .args .padcells .now))) (length (s .args .«record» .now)) (replyMessages (replyTable (s .args .n .replies) (s .args .firsts .now) (s .args .lasts .now) (s .args .replylives .now))) _ (u .ensures (s .args .padcells .now) .number) z) z
 
 mul-if1 : tie.Need-mul-if1
-mul-if1 c = let t = c .before .before .before in let s = t .before .before .before .before .before in let k = s .args .k in
-    let e = count-is (padState (k .limits .window) (k .pad)) (t .run-length .result) (t .run-length .ensures) (ap numberOf (c .before .enum-told .given .1)) in
-    let m = count-fits k (parts _ (s .pre)) (t .run-length .result) e in omega (arith, m)
+mul-if1 c = let s = c .before .before .before .before .before in let n = count-is (padState (s .args .l .window) (padOf (s .args .n .wanted) (s .args .held .now) (s .args .padtimers .now) (s .args .padcells .now))) _ (c .before .before .run-length .ensures (s .args .padcells .now)) (ap numberOf (c .enum-told .given .1)) in
+    let m = count-fits (s .args .l) (s .pre .0) (padOf (s .args .n .wanted) (s .args .held .now) (s .args .padtimers .now) (s .args .padcells .now)) (s .pre .1) _ n in omega (arith, m .1)
 
 room-requires : tie.Need-room-requires
 room-requires c κs = search needs
 
 record-run-requires : tie.Need-record-run-requires
-unfolding linkState
-record-run-requires c κs = let r = c .before .before in let t = r .before .before .before .before .before in let s = t .before .before .before .before .before in let k = s .args .k in
-    let n : numberOf (t .run-length .result .answer) ≡ 0 = ap numberOf (r .before .before .before .enum-told .given .1) in
-    let pad = padState (k .limits .window) (k .pad) in
-    (s .pre, all-pass pad _ (replyMessages (k .replies)) (some-ready pad (t .run-length .result) (t .run-length .ensures) n) _ (count-is pad (t .run-length .result) (t .run-length .ensures) n) (r .before .if1 .taken) (sym (r .room .ensures) ∙ c .before .if2 .taken))
+record-run-requires c κs = let s = c .before .before .before .before .before .before .before .before .before .before in let a = c .before .before .before .before .before .before .before .run-length .ensures (s .args .padcells .now) in let e = ap numberOf (c .before .before .before .before .before .enum-told .given .1) in
+    let n = count-is (padState (s .args .l .window) (padOf (s .args .n .wanted) (s .args .held .now) (s .args .padtimers .now) (s .args .padcells .now))) _ a e in let r = some-ready (padState (s .args .l .window) (padOf (s .args .n .wanted) (s .args .held .now) (s .args .padtimers .now) (s .args .padcells .now))) _ a e in let m = count-fits (s .args .l) (s .pre .0) (padOf (s .args .n .wanted) (s .args .held .now) (s .args .padtimers .now) (s .args .padcells .now)) (s .pre .1) _ n in
+    (s .pre .0, facts (s .args .l) (padOf (s .args .n .wanted) (s .args .held .now) (s .args .padtimers .now) (s .args .padcells .now)) (s .pre .1) .low, omega (arith, n, r), m .0, c .before .before .before .before .if1 .taken)
+
+put-requires : tie.Need-put-requires
+put-requires c κs = let s = c .before .before .before .before .before .before .before .before .before .before .before .before .before .before .before .before in let a = c .before .before .before .before .before .before .before .before .before .before .before .before .before .run-length .ensures (s .args .padcells .now) in let e = ap numberOf (c .before .before .before .before .before .before .before .before .before .before .before .enum-told .given .1) in
+    let v = c .before .before .before .before .before .record-run in let l = s .args .l in
+    (s .pre .0, s .pre .2, full-reply _ (record { first = s .args .n .wanted; last = v .result .last }) (s .pre .0) (ap (λ (x : Replying). soundReply l (x .reply)) (v .ensures (s .args .padtimers .now) (s .pre .1) (count-is (padState (s .args .l .window) (padOf (s .args .n .wanted) (s .args .held .now) (s .args .padtimers .now) (s .args .padcells .now))) _ a e) .1) ∙ replying-sound l (s .pre .0) (padOf (s .args .n .wanted) (s .args .held .now) (s .args .padtimers .now) (s .args .padcells .now)) (s .pre .1) (s .args .«record» .now) (some-ready (padState (s .args .l .window) (padOf (s .args .n .wanted) (s .args .held .now) (s .args .padtimers .now) (s .args .padcells .now))) _ a e)))
 
 stays-requires-2 : tie.Need-stays-requires-2
 stays-requires-2 c κs = search needs
@@ -52,21 +60,21 @@ same-length : tie.Need-same-length
 same-length c = search needs
 
 returns-2 : tie.Need-returns-2
-returns-2 c = search needs
+returns-2 c = let s = c .before .before .before .before .before .before .before .before .before .before .before .before .before .before .before .before .before in let u = c .before .before .before .before .before .before .before .before .before .before .before .before .before .before .run-length in
+    let a = u .ensures (s .args .padcells .now) in let e = ap numberOf (c .before .before .before .before .before .before .before .before .before .before .before .before .enum-told .given .1) in
+    let v = c .before .before .before .before .before .before .record-run in let n = count-is (padState (s .args .l .window) (padOf (s .args .n .wanted) (s .args .held .now) (s .args .padtimers .now) (s .args .padcells .now))) _ a e in let r = some-ready (padState (s .args .l .window) (padOf (s .args .n .wanted) (s .args .held .now) (s .args .padtimers .now) (s .args .padcells .now))) _ a e in let fits = c .before .before .before .before .before .before .before .before .before .before .before .if1 .taken in
+    λ marks mattimers matcells numbers datalives datacells h. let p = parts _ h in
+    replies _ p (s .args .«record» .now) _ (all-pass (padState (s .args .l .window) (padOf (s .args .n .wanted) (s .args .held .now) (s .args .padtimers .now) (s .args .padcells .now))) _ (replyMessages (replyTable (s .args .n .replies) (s .args .firsts .now) (s .args .lasts .now) (s .args .replylives .now))) r _ n fits (reply-room (replyTable (s .args .n .replies) (s .args .firsts .now) (s .args .lasts .now) (s .args .replylives .now)) _ (sym (c .before .before .before .before .before .before .before .before .before .before .room .ensures) ∙ c .before .before .before .before .before .before .before .before .before .if2 .taken))) _ (reply-done (s .args .l) (padOf (s .args .n .wanted) (s .args .held .now) (s .args .padtimers .now) (s .args .padcells .now)) _ (s .args .«record» .now) _ _ _ (u .result .answer) e r n fits (v .ensures (s .args .padtimers .now) (p .pad) n)) _ (u .result .answer) e (c .put .ensures)
 
 returns-3 : tie.Need-returns-3
 unfolding linkState
-returns-3 c = let r = c .before .before in let t = r .before .before .before .before .before in let k = t .before .before .before .before .before .args .k in
-    let n : numberOf (t .run-length .result .answer) ≡ 0 = ap numberOf (r .before .before .before .enum-told .given .1) in
-    let pad = padState (k .limits .window) (k .pad) in
-    stays-refused _ _ _ _ _ _ (c .stays2 .ensures) (table-full pad _ (replyMessages (k .replies)) (some-ready pad (t .run-length .result) (t .run-length .ensures) n) _ (count-is pad (t .run-length .result) (t .run-length .ensures) n) (r .before .if1 .taken) (sym (r .room .ensures) ∙ c .before .if2 .left)) refl
+returns-3 c = let s = c .before .before .before .before .before .before .before .before .before in let a = c .before .before .before .before .before .before .run-length .ensures (s .args .padcells .now) in let e = ap numberOf (c .before .before .before .before .enum-told .given .1) in
+    λ marks mattimers matcells numbers datalives datacells h. lent-refused _ _ _ _ _ _ _ _ _ refl (c .stays2 .ensures) (table-full (padState (s .args .l .window) (padOf (s .args .n .wanted) (s .args .held .now) (s .args .padtimers .now) (s .args .padcells .now))) _ (replyMessages (replyTable (s .args .n .replies) (s .args .firsts .now) (s .args .lasts .now) (s .args .replylives .now))) (some-ready (padState (s .args .l .window) (padOf (s .args .n .wanted) (s .args .held .now) (s .args .padtimers .now) (s .args .padcells .now))) _ a e) _ (count-is (padState (s .args .l .window) (padOf (s .args .n .wanted) (s .args .held .now) (s .args .padtimers .now) (s .args .padcells .now))) _ a e) (c .before .before .before .if1 .taken) (reply-room (replyTable (s .args .n .replies) (s .args .firsts .now) (s .args .lasts .now) (s .args .replylives .now)) _ (sym (c .before .before .room .ensures) ∙ c .before .if2 .left))) refl
 
 returns-4 : tie.Need-returns-4
 unfolding linkState
-returns-4 c = let t = c .before .before .before .before .before in let k = t .before .before .before .before .before .args .k in
-    let n : numberOf (t .run-length .result .answer) ≡ 0 = ap numberOf (c .before .before .before .enum-told .given .1) in
-    let pad = padState (k .limits .window) (k .pad) in
-    stays-refused _ _ _ _ _ _ (c .stays3 .ensures) (record-full pad _ (replyMessages (k .replies)) (some-ready pad (t .run-length .result) (t .run-length .ensures) n) _ (count-is pad (t .run-length .result) (t .run-length .ensures) n) (c .before .if1 .left)) refl
+returns-4 c = let s = c .before .before .before .before .before .before .before in let a = c .before .before .before .before .run-length .ensures (s .args .padcells .now) in let e = ap numberOf (c .before .before .enum-told .given .1) in
+    λ marks mattimers matcells numbers datalives datacells h. lent-refused _ _ _ _ _ _ _ _ _ refl (c .stays3 .ensures) (record-full (padState (s .args .l .window) (padOf (s .args .n .wanted) (s .args .held .now) (s .args .padtimers .now) (s .args .padcells .now))) _ (replyMessages (replyTable (s .args .n .replies) (s .args .firsts .now) (s .args .lasts .now) (s .args .replylives .now))) (some-ready (padState (s .args .l .window) (padOf (s .args .n .wanted) (s .args .held .now) (s .args .padtimers .now) (s .args .padcells .now))) _ a e) _ (count-is (padState (s .args .l .window) (padOf (s .args .n .wanted) (s .args .held .now) (s .args .padtimers .now) (s .args .padcells .now))) _ a e) (c .before .if1 .left)) refl
 
 pub reply-spec : {M : Type 1} → statement M
 reply-spec =
@@ -79,6 +87,7 @@ reply-spec =
     mul-if1
     room-requires
     record-run-requires
+    put-requires
     stays-requires-2
     stays-requires-3
     same-length

@@ -1,144 +1,30 @@
+use borrow.Author.Needs.{needs}
 use Rattle.link.proofs.soundlink.run.Statement.{statement}
 use Rattle.link.proofs.soundlink.run.Tie as tie
-use Prim.Native.Nat.{_-_, _≤_, _+_, _*_, _<_}
-use Rattle.link.proofs.Laws.Running.{Going, starts, turn-done, turn-refused, counts-fit, finishes}
-use native.Mathlib.Omega.{arith}
-use borrow.Author.Needs.{needs}
-use mathlib.Core.Path.{refl}
-use lib.ListN.{length}
-use Rattle.limits.proofs.Laws.Promise.{not-done}
+use mathlib.Core.Path.{_∙_, ap}
+use Rattle.link.specs.View.{soundLink}
+use Rattle.link.proofs.Laws.Apart.{apart, run-joined}
 
-abbrev Inv-loop : tie.InvT-loop
-Inv-loop events supply record₀ answers₀ count link₀ counts₀ i₀ «record» answers link counts i = (i ≤ count) × Going events supply record₀ answers₀ link₀ «record» answers link counts i
+numbers-of-requires : tie.Need-numbers-of-requires
+numbers-of-requires c κs = search needs
 
-abbrev μ-loop : tie.MeasureT-loop
-μ-loop events supply record₀ answers₀ count link₀ counts₀ i₀ «record» answers link counts i = count - i
+run-requires : tie.Need-run-requires
+run-requires c κs = (ap soundLink (apart _ _ (c .before .before .before .before .before .before .before .before .before .before .before .before .before .before .before .before .before .before .before .before .before .before .before .before .before .before .numbers-of .ensures)) ∙ c .before .before .before .before .before .before .before .before .before .before .before .before .before .before .before .before .before .before .before .before .before .before .before .before .before .before .before .before .before .before .before .before .pre .0, c .before .before .before .before .before .before .before .before .before .before .before .before .before .before .before .before .before .before .before .before .before .before .before .before .before .before .before .before .before .before .before .before .pre .1, c .before .before .before .before .before .before .before .before .before .before .before .before .before .before .before .before .before .before .before .before .before .before .before .before .before .before .before .before .before .before .before .before .pre .2)
 
-loop-holds : tie.Need-loop-holds Inv-loop μ-loop
-loop-holds c = let b = c .before .before .before .before in (omega arith, starts _ _ _ _ _ (b .pre .0))
+joined-requires : tie.Need-joined-requires
+joined-requires c κs = search needs
 
-mul-sent : tie.Need-mul-sent Inv-loop μ-loop
-mul-sent c = let l = c .before .before in let b = l .before .before .before .before .before in omega (arith, l .loop .inv .0, l .loop .inv .1 .sent, l .loop .inv .1 .recorded, l .loop .inv .1 .same-record, l .loop .inv .1 .same-answers, c .before .loop-test .taken, b .pre .1, b .pre .2, b .good .1 .0, b .good .1 .1 .0, b .good .1 .1 .1 .0, b .good .1 .1 .1 .1)
-
-mul-recorded : tie.Need-mul-recorded Inv-loop μ-loop
-mul-recorded c = let l = c .before .before .before in let b = l .before .before .before .before .before in omega (arith, l .loop .inv .0, l .loop .inv .1 .sent, l .loop .inv .1 .recorded, l .loop .inv .1 .same-record, l .loop .inv .1 .same-answers, c .before .before .loop-test .taken, b .pre .1, b .pre .2, b .good .1 .0, b .good .1 .1 .0, b .good .1 .1 .1 .0, b .good .1 .1 .1 .1)
-
-mul-event : tie.Need-mul-event Inv-loop μ-loop
-mul-event c = let l = c .before .before .before in let b = l .before .before .before .before .before in omega (arith, l .loop .inv .0, l .loop .inv .1 .sent, l .loop .inv .1 .recorded, l .loop .inv .1 .same-record, l .loop .inv .1 .same-answers, c .before .before .loop-test .taken, b .pre .1, b .pre .2, b .good .1 .0, b .good .1 .1 .0, b .good .1 .1 .1 .0, b .good .1 .1 .1 .1)
-
-shared-slice-read-event : tie.Need-shared-slice-read-event Inv-loop μ-loop
-shared-slice-read-event c = let l = c .before .before .before .before in let b = l .before .before .before .before .before in omega (arith, l .loop .inv .0, l .loop .inv .1 .sent, l .loop .inv .1 .recorded, l .loop .inv .1 .same-record, l .loop .inv .1 .same-answers, c .before .before .before .loop-test .taken, b .pre .1, b .pre .2, b .good .1 .0, b .good .1 .1 .0, b .good .1 .1 .1 .0, b .good .1 .1 .1 .1)
-
-mul-event-2 : tie.Need-mul-event-2 Inv-loop μ-loop
-mul-event-2 c = let l = c .before .before .before .before in let b = l .before .before .before .before .before in omega (arith, l .loop .inv .0, l .loop .inv .1 .sent, l .loop .inv .1 .recorded, l .loop .inv .1 .same-record, l .loop .inv .1 .same-answers, c .before .before .before .loop-test .taken, b .pre .1, b .pre .2, b .good .1 .0, b .good .1 .1 .0, b .good .1 .1 .1 .0, b .good .1 .1 .1 .1)
-
-add-event : tie.Need-add-event Inv-loop μ-loop
-add-event c = let l = c .before .before .before .before in let b = l .before .before .before .before .before in omega (arith, l .loop .inv .0, l .loop .inv .1 .sent, l .loop .inv .1 .recorded, l .loop .inv .1 .same-record, l .loop .inv .1 .same-answers, c .before .before .before .loop-test .taken, b .pre .1, b .pre .2, b .good .1 .0, b .good .1 .1 .0, b .good .1 .1 .1 .0, b .good .1 .1 .1 .1)
-
-shared-slice-read-event-2 : tie.Need-shared-slice-read-event-2 Inv-loop μ-loop
-shared-slice-read-event-2 c = let l = c .before .before .before .before .before in let b = l .before .before .before .before .before in omega (arith, l .loop .inv .0, l .loop .inv .1 .sent, l .loop .inv .1 .recorded, l .loop .inv .1 .same-record, l .loop .inv .1 .same-answers, c .before .before .before .before .loop-test .taken, b .pre .1, b .pre .2, b .good .1 .0, b .good .1 .1 .0, b .good .1 .1 .1 .0, b .good .1 .1 .1 .1)
-
-mul-event-3 : tie.Need-mul-event-3 Inv-loop μ-loop
-mul-event-3 c = let l = c .before .before .before .before .before in let b = l .before .before .before .before .before in omega (arith, l .loop .inv .0, l .loop .inv .1 .sent, l .loop .inv .1 .recorded, l .loop .inv .1 .same-record, l .loop .inv .1 .same-answers, c .before .before .before .before .loop-test .taken, b .pre .1, b .pre .2, b .good .1 .0, b .good .1 .1 .0, b .good .1 .1 .1 .0, b .good .1 .1 .1 .1)
-
-sub-event : tie.Need-sub-event Inv-loop μ-loop
-sub-event c = let l = c .before .before .before .before .before in let b = l .before .before .before .before .before in omega (arith, l .loop .inv .0, l .loop .inv .1 .sent, l .loop .inv .1 .recorded, l .loop .inv .1 .same-record, l .loop .inv .1 .same-answers, c .before .before .before .before .loop-test .taken, b .pre .1, b .pre .2, b .good .1 .0, b .good .1 .1 .0, b .good .1 .1 .1 .0, b .good .1 .1 .1 .1)
-
-part-event-start : tie.Need-part-event-start Inv-loop μ-loop
-part-event-start c = search needs
-
-part-event-end : tie.Need-part-event-end Inv-loop μ-loop
-part-event-end c = search needs
-
-mul-event-4 : tie.Need-mul-event-4 Inv-loop μ-loop
-mul-event-4 c = let l = c .before .before .before .before .before .before in let b = l .before .before .before .before .before in omega (arith, l .loop .inv .0, l .loop .inv .1 .sent, l .loop .inv .1 .recorded, l .loop .inv .1 .same-record, l .loop .inv .1 .same-answers, c .before .before .before .before .before .loop-test .taken, b .pre .1, b .pre .2, b .good .1 .0, b .good .1 .1 .0, b .good .1 .1 .1 .0, b .good .1 .1 .1 .1)
-
-sub-event-2 : tie.Need-sub-event-2 Inv-loop μ-loop
-sub-event-2 c = let l = c .before .before .before .before .before .before in let b = l .before .before .before .before .before in omega (arith, l .loop .inv .0, l .loop .inv .1 .sent, l .loop .inv .1 .recorded, l .loop .inv .1 .same-record, l .loop .inv .1 .same-answers, c .before .before .before .before .before .loop-test .taken, b .pre .1, b .pre .2, b .good .1 .0, b .good .1 .1 .0, b .good .1 .1 .1 .0, b .good .1 .1 .1 .1)
-
-part-event-start-2 : tie.Need-part-event-start-2 Inv-loop μ-loop
-part-event-start-2 c = search needs
-
-part-event-end-2 : tie.Need-part-event-end-2 Inv-loop μ-loop
-part-event-end-2 c = search needs
-
-event-requires : tie.Need-event-requires Inv-loop μ-loop
-event-requires c κs = c .before .before .before .before .before .before .before .loop .inv .1 .sound
-
-number-requires : tie.Need-number-requires Inv-loop μ-loop
-number-requires c κs = search needs
-
-slice-write-answers : tie.Need-slice-write-answers Inv-loop μ-loop
-slice-write-answers c = let l = c .before .before .before .before .before .before .before .before .before .before .before in let b = l .before .before .before .before .before in omega (arith, l .loop .inv .0, l .loop .inv .1 .sent, l .loop .inv .1 .recorded, l .loop .inv .1 .same-record, l .loop .inv .1 .same-answers, c .before .before .before .before .before .before .before .before .before .before .loop-test .taken, b .pre .1, b .pre .2, b .good .1 .0, b .good .1 .1 .0, b .good .1 .1 .1 .0, b .good .1 .1 .1 .1)
-
-add-i : tie.Need-add-i Inv-loop μ-loop
-add-i c = let l = c .before .before .before .before .before .before .before .before .before .before .before in let b = l .before .before .before .before .before in omega (arith, l .loop .inv .0, l .loop .inv .1 .sent, l .loop .inv .1 .recorded, l .loop .inv .1 .same-record, l .loop .inv .1 .same-answers, c .before .before .before .before .before .before .before .before .before .before .loop-test .taken, b .pre .1, b .pre .2, b .good .1 .0, b .good .1 .1 .0, b .good .1 .1 .1 .0, b .good .1 .1 .1 .1)
-
-enum-told : tie.Need-enum-told Inv-loop μ-loop
-enum-told c = search needs
-
-loop-less : tie.Need-loop-less Inv-loop μ-loop
-loop-less c = let l = c .before .before .before .before .before .before .before .before .before .before .before .before in let b = l .before .before .before .before .before in let t = c .before .before .before .before .before .before .before .before .before .before .before .loop-test .taken in let g = l .loop .inv .1 in
-    omega (arith, t)
-
-loop-again : tie.Need-loop-again Inv-loop μ-loop
-loop-again c = let l = c .before .before .before .before .before .before .before .before .before .before .before .before in let b = l .before .before .before .before .before in let t = c .before .before .before .before .before .before .before .before .before .before .before .loop-test .taken in let g = l .loop .inv .1 in
-    (omega (arith, t), turn-refused _ _ _ _ _ _ _ _ _ _ g (let u : 2 * l .loop .i + 1 < length (b .args .events .now) = omega (arith, t, b .pre .1) in u) (let u : l .loop .i < length (l .loop .answers) = omega (arith, t, b .pre .2, g .same-answers) in u) (c .before .before .before .before .event .result) _ (c .before .before .before .before .event .ensures) (c .before .before .before .before .event .kept .1 .1 .1 .1 .0) (c .before .number .result) (c .before .number .ensures) (not-done (c .before .before .before .before .event .result .answer) (c .match .keys2)))
-
-sum-requires : tie.Need-sum-requires Inv-loop μ-loop
-sum-requires c κs = let l = c .before .before .before .before .before .before .before .before .before .before .before .before .before .before .before in let b = l .before .before .before .before .before in let t = c .before .before .before .before .before .before .before .before .before .before .before .before .before .before .loop-test .taken in let g = l .loop .inv .1 in
-    counts-fit _ _ _ _ _ _ _ _ _ _ g (let u : 2 * l .loop .i + 1 < length (b .args .events .now) = omega (arith, t, b .pre .1) in u) (let u : l .loop .i < length (l .loop .answers) = omega (arith, t, b .pre .2, g .same-answers) in u) (c .before .before .before .before .before .before .before .event .result) _ (c .before .before .before .before .before .before .before .event .ensures) (c .before .before .before .before .before .before .before .event .kept .1 .1 .1 .1 .0) (c .before .before .before .before .number .result) (c .before .before .before .before .number .ensures) (b .pre .0) (omega (arith, b .good .1 .1 .0)) (omega (arith, g .same-record, b .good .1 .1 .1 .0))
-
-loop-less-2 : tie.Need-loop-less-2 Inv-loop μ-loop
-loop-less-2 c = let l = c .before .before .before .before .before .before .before .before .before .before .before .before .before .before .before .before in let b = l .before .before .before .before .before in let t = c .before .before .before .before .before .before .before .before .before .before .before .before .before .before .before .loop-test .taken in let g = l .loop .inv .1 in
-    omega (arith, t)
-
-loop-again-2 : tie.Need-loop-again-2 Inv-loop μ-loop
-loop-again-2 c = let l = c .before .before .before .before .before .before .before .before .before .before .before .before .before .before .before .before in let b = l .before .before .before .before .before in let t = c .before .before .before .before .before .before .before .before .before .before .before .before .before .before .before .loop-test .taken in let g = l .loop .inv .1 in
-    (omega (arith, t), turn-done _ _ _ _ _ _ _ _ _ _ g (let u : 2 * l .loop .i + 1 < length (b .args .events .now) = omega (arith, t, b .pre .1) in u) (let u : l .loop .i < length (l .loop .answers) = omega (arith, t, b .pre .2, g .same-answers) in u) (c .before .before .before .before .before .before .before .before .event .result) _ (c .before .before .before .before .before .before .before .before .event .ensures) (c .before .before .before .before .before .before .before .before .event .kept .1 .1 .1 .1 .0) (c .before .before .before .before .before .number .result) (c .before .before .before .before .before .number .ensures) _ (c .sum .ensures))
-
-same-length : tie.Need-same-length Inv-loop μ-loop
+same-length : tie.Need-same-length
 same-length c = search needs
 
-same-length-2 : tie.Need-same-length-2 Inv-loop μ-loop
+same-length-2 : tie.Need-same-length-2
 same-length-2 c = search needs
 
-returns : tie.Need-returns Inv-loop μ-loop
-returns c = let l = c .before in let b = l .before .before .before .before .before in let g = l .loop .inv .1 in
-    (refl, g .sound, finishes _ _ _ _ _ _ _ _ _ (l .loop .i) (b .pre .1) (omega (arith, l .loop .inv .0, c .loop-test .left)) (omega (arith, b .pre .2, g .same-answers)) g)
+returns : tie.Need-returns
+returns c = let s = c .before .before .before .before .before .before .before .before .before .before .before .before .before .before .before .before .before .before .before .before .before .before .before .before .before .before .before .before .before .before .before .before .before .before .before .before .before .before .before .before in
+    run-joined _ _ _ _ _ (apart _ _ (c .before .before .before .before .before .before .before .before .before .before .before .before .before .before .before .before .before .before .before .before .before .before .before .before .before .before .before .before .before .before .before .before .before .before .numbers-of .ensures)) (c .joined .ensures) (s .args .events .now) (s .args .supply .now) (s .args .«record» .now) _ (s .args .answers .now) _ _ (c .before .before .before .before .before .before .before .run .ensures)
 
 pub run-spec : {M : Type 1} → statement M
 run-spec =
     tie.close
-    (tie.spec
-    Inv-loop
-    μ-loop
-    loop-holds
-    mul-sent
-    mul-recorded
-    mul-event
-    shared-slice-read-event
-    mul-event-2
-    add-event
-    shared-slice-read-event-2
-    mul-event-3
-    sub-event
-    part-event-start
-    part-event-end
-    mul-event-4
-    sub-event-2
-    part-event-start-2
-    part-event-end-2
-    event-requires
-    number-requires
-    slice-write-answers
-    add-i
-    enum-told
-    loop-less
-    loop-again
-    sum-requires
-    loop-less-2
-    loop-again-2
-    same-length
-    same-length-2
-    returns)
+    (tie.spec numbers-of-requires run-requires joined-requires same-length same-length-2 returns)

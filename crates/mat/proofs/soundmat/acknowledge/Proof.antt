@@ -1,55 +1,58 @@
+use Rattle.mat.proofs.soundmat.acknowledge.Statement.{statement}
+use Rattle.mat.proofs.soundmat.acknowledge.Tie as tie
+use Rattle.mat.specs.View.{matOf}
 use Rattle.mat.proofs.Laws.Calls.{span-yes, span-no, passing-span}
 use Rattle.limits.proofs.Laws.Ring.{distance-below}
 use Rattle.limits.proofs.Laws.Messages.{reply-facts}
 use Rattle.limits.proofs.Laws.Promise.{called-done, called-refused}
 use Rattle.limits.proofs.Laws.Choice.{pick-yes, pick-no}
-use Rattle.limits.specs.Answer.{numberOf}
-use Rattle.mat.proofs.Laws.Sound.{facts}
 use Rattle.limits.proofs.Laws.Good.{good}
+use Rattle.limits.specs.Answer.{numberOf}
 use mathlib.Core.Path.{refl, sym, _∙_, ap}
 use native.Mathlib.Omega.{arith}
-use Rattle.mat.proofs.soundmat.acknowledge.Statement.{statement}
-use Rattle.mat.proofs.soundmat.acknowledge.Tie as tie
 
 mul-gap : tie.Need-mul-gap
 mul-gap c = omega (arith, good _ (c .pre .0))
 
 gap-requires : tie.Need-gap-requires
-gap-requires c κs = let r = reply-facts _ _ (c .pre .2) in omega (arith, good _ (c .pre .0))
+gap-requires c κs = let r = reply-facts _ _ (c .pre .4) in omega (arith, r, good _ (c .pre .0))
 
 add-count : tie.Need-add-count
-add-count c = let r = reply-facts _ _ (c .before .pre .2) in omega (arith, good _ (c .before .pre .0), c .gap .ensures)
+add-count c = let r = reply-facts _ _ (c .before .pre .4) in omega (arith, r, good _ (c .before .pre .0), c .gap .ensures)
 
 mul-gap-2 : tie.Need-mul-gap-2
 mul-gap-2 c = omega (arith, good _ (c .before .pre .0))
 
 gap-requires-2 : tie.Need-gap-requires-2
-gap-requires-2 c κs = let r = reply-facts _ _ (c .before .pre .2) in let f = facts _ (c .before .args .m) (c .before .pre .0) (c .before .pre .1) in omega arith
+gap-requires-2 c κs = let r = reply-facts _ _ (c .before .pre .4) in omega (arith, r, good _ (c .before .pre .0), c .before .pre .1)
 
 add-if1 : tie.Need-add-if1
-add-if1 c = let s = c .before .before in let r = reply-facts _ _ (s .pre .2) in let f = facts _ (s .args .m) (s .pre .0) (s .pre .1) in
-    omega (arith, f, r, c .gap2 .ensures, c .before .gap .ensures, distance-below _ _ _ (f .numbers .oldest) (r .first))
+add-if1 c = let s = c .before .before in let r = reply-facts _ _ (s .pre .4) in
+    omega (arith, good _ (s .pre .0), r, c .gap2 .ensures, c .before .gap .ensures, distance-below _ _ _ (s .pre .1) (r .first))
 
 mul-gap-3 : tie.Need-mul-gap-3
 mul-gap-3 c = omega (arith, good _ (c .before .before .pre .0))
 
 gap-requires-3 : tie.Need-gap-requires-3
-gap-requires-3 c κs = let s = c .before .before in let f = facts _ (s .args .m) (s .pre .0) (s .pre .1) in omega (arith, f)
+gap-requires-3 c κs = let s = c .before .before in omega (arith, good _ (s .pre .0), s .pre .1, s .pre .2)
 
-marked-off-requires : tie.Need-marked-off-requires
-marked-off-requires c κs = let s = c .before .before .before .before in let r = reply-facts _ _ (s .pre .2) in
-    (s .pre .0, s .pre .1, r .first, omega arith, omega (arith, c .before .gap3 .ensures, c .before .before .gap2 .ensures, c .if1 .taken))
+mark-off-requires : tie.Need-mark-off-requires
+mark-off-requires c κs = let s = c .before .before .before .before .before in let r = reply-facts _ _ (s .pre .4) in
+    (s .pre .0, s .pre .1, s .pre .2, s .pre .3, r .first, omega arith, omega (arith, c .before .before .gap3 .ensures, c .before .before .before .gap2 .ensures, c .before .if1 .taken))
 
 returns : tie.Need-returns
-returns c = let s = c .before .before .before .before .before in let e = c .marked-off .ensures in
+returns c = λ timers cells s. let b = c .before .before .before .before .before .before in
+    let m = matOf (b .args .oldest) (b .args .next) (b .args .marks .now) timers cells in
+    let e = c .mark-off .ensures timers cells s in
     called-done _ _ _ _ _ (ap numberOf (e .0)
-    ∙ sym (pick-yes _ _ _ _ (span-yes (s .args .l) (s .args .m) _ _ _ _ _ (c .before .before .before .before .gap .ensures) (c .before .before .before .gap2 .ensures) (c .before .before .gap3 .ensures) (c .before .if1 .taken)) refl)) _ _ _
+    ∙ sym (pick-yes _ _ _ _ (span-yes (b .args .l) m _ _ _ _ _ (c .before .before .before .before .before .gap .ensures) (c .before .before .before .before .gap2 .ensures) (c .before .before .before .gap3 .ensures) (c .before .before .if1 .taken)) refl)) _ _ _
     (ap numberOf (e .0))
-    (e .2 ∙ passing-span (s .args .l) (s .args .m) _ _ _ _ _ (c .before .before .before .before .gap .ensures) (c .before .before .before .gap2 .ensures) (c .before .before .gap3 .ensures)) (e .1)
+    (e .2 ∙ passing-span (b .args .l) m _ _ _ _ _ (c .before .before .before .before .before .gap .ensures) (c .before .before .before .before .gap2 .ensures) (c .before .before .before .gap3 .ensures)) (e .1)
 
 returns-2 : tie.Need-returns-2
-returns-2 c = let s = c .before .before .before .before in
-    called-refused _ _ _ _ _ (sym (pick-no _ _ _ _ (span-no (s .args .l) (s .args .m) _ _ _ _ _ (c .before .before .before .gap .ensures) (c .before .before .gap2 .ensures) (c .before .gap3 .ensures) (c .if1 .left)) refl)) _ _ _ refl refl refl
+returns-2 c = λ timers cells s. let b = c .before .before .before .before in
+    let m = matOf (b .args .oldest) (b .args .next) (b .args .marks .now) timers cells in
+    called-refused _ _ _ _ _ (sym (pick-no _ _ _ _ (span-no (b .args .l) m _ _ _ _ _ (c .before .before .before .gap .ensures) (c .before .before .gap2 .ensures) (c .before .gap3 .ensures) (c .if1 .left)) refl)) _ _ _ refl refl refl
 
 pub acknowledge-spec : {M : Type 1} → statement M
 acknowledge-spec =
@@ -63,6 +66,6 @@ acknowledge-spec =
     add-if1
     mul-gap-3
     gap-requires-3
-    marked-off-requires
+    mark-off-requires
     returns
     returns-2)
