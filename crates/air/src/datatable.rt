@@ -6,15 +6,7 @@ ghost use Rattle.limits.specs.Questions.{ask, timeQuestions};
 ghost use Rattle.limits.specs.Limits.{soundLimits};
 ghost use Rattle.limits.specs.Tables.{put, remove, age};
 ghost use Rattle.air.specs.Rules.{roomQuestions, placeQuestions};
-ghost use Rattle.air.specs.Data.{
-  dataMessages,
-  dataMessage,
-  soundDataMessage,
-  soundDataTable,
-  emptyData,
-  DataCall,
-  DataReading,
-};
+ghost use Rattle.air.specs.Data.{dataMessages, dataMessage, soundDataMessage, soundDataTable, emptyData, DataCall, DataReading};
 use crate::sounddata;
 use limits::Limits;
 use limits::answer::Answer;

@@ -27,6 +27,3 @@ fn outlives(life: u16, d: u16) -> bool
 {
     d < life
 }
-
-// Does nothing. Lent as slices, the arrays of a table tell the proofs their lengths, which a reference to an array does not.
-fn lengths(_a: &[u16], _b: &[u16], _c: &[u16]) {}

@@ -6,15 +6,7 @@ ghost use Rattle.limits.specs.Questions.{ask, timeQuestions};
 ghost use Rattle.limits.specs.Limits.{soundLimits};
 ghost use Rattle.limits.specs.Tables.{put, remove, age};
 ghost use Rattle.air.specs.Rules.{roomQuestions, placeQuestions};
-ghost use Rattle.air.specs.Replies.{
-  replyMessages,
-  replyMessage,
-  soundReplyMessage,
-  soundReplyTable,
-  emptyReplies,
-  ReplyCall,
-  ReplyReading,
-};
+ghost use Rattle.air.specs.Replies.{replyMessages, replyMessage, soundReplyMessage, soundReplyTable, emptyReplies, ReplyCall, ReplyReading};
 use crate::soundreplies;
 use limits::Limits;
 use limits::answer::Answer;

@@ -1,25 +1,17 @@
 // Inner: called by datatable and by the link. The data table's calls where question 4 has been put and passed. The arrays are
 // lent and change in place.
 ghost use mathlib.Core.Path.{_≡_};
-ghost use mathlib.Core.Bool.{true, _&&_};
-ghost use Prim.Native.Nat.{_*_, _<_, _≤_};
+ghost use mathlib.Core.Bool.{true};
+ghost use Prim.Native.Nat.{_+_, _*_, _≤_};
 ghost use lib.Dec.{ltb};
+ghost use lib.ListN.{length};
 ghost use Rattle.limits.specs.Questions.{timeQuestions};
 ghost use Rattle.limits.specs.Limits.{soundLimits};
 ghost use Rattle.limits.specs.Cells.{rowAt};
 ghost use Rattle.limits.specs.Tables.{put, remove, age, capacity};
 ghost use Rattle.rows.specs.Arrays.{written};
 ghost use Rattle.air.specs.Rules.{roomQuestions, placeQuestions};
-ghost use Rattle.air.specs.Data.{
-  dataTable,
-  dataMessages,
-  dataMessage,
-  soundDataMessage,
-  soundDataTable,
-  noData,
-  DataCall,
-  DataReading,
-};
+ghost use Rattle.air.specs.Data.{dataTable, dataMessages, dataMessage, soundDataMessage, soundDataTable, noData, DataCall, DataReading};
 use crate::Counted;
 use crate::datatable::DataMessage;
 use crate::datatable::DataRead;
@@ -82,11 +74,10 @@ pub fn put(
         (record { answer = r .answer; table = dataTable (r .count) (now (numbers .exit)) (now (lives .exit)) (now (cells .exit)) })) ⌝ }
 {
     if count < 32 {
-        crate::lengths(numbers, lives, cells);
-        numbers[count] = m.number as u16;
-        lives[count] = m.life;
+        rows::set(numbers, count, m.number as u16);
+        rows::set(lives, count, m.life);
         let row = m.row;
-        rows::store(cells, count, row);
+        rows::write(cells, 16 * count, row);
         Counted {
             answer: Answer::Done,
             count: count + 1,
@@ -129,15 +120,15 @@ pub fn remove(
 }
 
 // Copies row `from` to `to`. Most ticks drop nothing, and then no row moves.
-fn move_row(cells: &mut [u16; 512], from: usize, to: usize)
-    requires { ⌜ (from < 32) × (to < 32) ⌝ }
+fn move_row(cells: &mut [u16], from: usize, to: usize)
+    requires { ⌜ (16 * from + 16 ≤ length (now cells)) × (16 * to + 16 ≤ length (now cells)) ⌝ }
     ensures { λ _. ⌜ now (cells .exit) ≡ written (16 * to) (rowAt (now (cells .entry)) from) (now (cells .entry)) ⌝ }
 {
     if from == to {
         return;
     }
-    let row = rows::load(cells, from);
-    rows::store(cells, to, row);
+    let row = rows::read(cells, 16 * from);
+    rows::write(cells, 16 * to, row);
 }
 
 // The messages that outlive d move together, each with what is left of its life. Gives their number.
@@ -152,7 +143,6 @@ fn age(
     ensures { λ r. ⌜ dataMessages (dataTable r (now (numbers .exit)) (now (lives .exit)) (now (cells .exit)))
         ≡ age d (dataMessages (dataTable count (now (numbers .entry)) (now (lives .entry)) (now (cells .entry)))) ⌝ }
 {
-    crate::lengths(numbers, lives, cells);
     let mut kept = 0;
     let mut i = 0;
     while i < count {
@@ -160,8 +150,9 @@ fn age(
         i += 1;
         let life = lives[at];
         if crate::outlives(life, d) {
-            numbers[kept] = numbers[at];
-            lives[kept] = life - d;
+            let number = numbers[at];
+            rows::set(numbers, kept, number);
+            rows::set(lives, kept, life - d);
             move_row(cells, at, kept);
             kept += 1;
         }

@@ -1,23 +1,14 @@
 // Inner: called by replytable and by the link. The reply table's calls where question 4 has been put and passed. The arrays are
 // lent and change in place.
 ghost use mathlib.Core.Path.{_≡_};
-ghost use mathlib.Core.Bool.{true, _&&_};
-ghost use Prim.Native.Nat.{_<_, _≤_};
+ghost use mathlib.Core.Bool.{true};
+ghost use Prim.Native.Nat.{_≤_};
 ghost use lib.Dec.{ltb};
 ghost use Rattle.limits.specs.Questions.{timeQuestions};
 ghost use Rattle.limits.specs.Limits.{soundLimits};
 ghost use Rattle.limits.specs.Tables.{put, remove, age, capacity};
 ghost use Rattle.air.specs.Rules.{roomQuestions, placeQuestions};
-ghost use Rattle.air.specs.Replies.{
-  replyTable,
-  replyMessages,
-  replyMessage,
-  soundReplyMessage,
-  soundReplyTable,
-  noReply,
-  ReplyCall,
-  ReplyReading,
-};
+ghost use Rattle.air.specs.Replies.{replyTable, replyMessages, replyMessage, soundReplyMessage, soundReplyTable, noReply, ReplyCall, ReplyReading};
 use crate::Counted;
 use crate::replytable::ReplyMessage;
 use crate::replytable::ReplyRead;
@@ -80,10 +71,9 @@ pub fn put(
         (record { answer = r .answer; table = replyTable (r .count) (now (firsts .exit)) (now (lasts .exit)) (now (lives .exit)) })) ⌝ }
 {
     if count < 32 {
-        crate::lengths(firsts, lasts, lives);
-        firsts[count] = m.first as u16;
-        lasts[count] = m.last as u16;
-        lives[count] = m.life;
+        rows::set(firsts, count, m.first as u16);
+        rows::set(lasts, count, m.last as u16);
+        rows::set(lives, count, m.life);
         Counted {
             answer: Answer::Done,
             count: count + 1,
@@ -137,7 +127,6 @@ fn age(
     ensures { λ r. ⌜ replyMessages (replyTable r (now (firsts .exit)) (now (lasts .exit)) (now (lives .exit)))
         ≡ age d (replyMessages (replyTable count (now (firsts .entry)) (now (lasts .entry)) (now (lives .entry)))) ⌝ }
 {
-    crate::lengths(firsts, lasts, lives);
     let mut kept = 0;
     let mut i = 0;
     while i < count {
@@ -145,9 +134,11 @@ fn age(
         i += 1;
         let life = lives[at];
         if crate::outlives(life, d) {
-            firsts[kept] = firsts[at];
-            lasts[kept] = lasts[at];
-            lives[kept] = life - d;
+            let first = firsts[at];
+            rows::set(firsts, kept, first);
+            let last = lasts[at];
+            rows::set(lasts, kept, last);
+            rows::set(lives, kept, life - d);
             kept += 1;
         }
     }

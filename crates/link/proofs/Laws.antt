@@ -13,3 +13,4 @@ pub mod Calls
 pub mod Rises
 pub mod Running
 pub mod Apart
+pub mod Single

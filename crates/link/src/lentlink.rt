@@ -3,7 +3,7 @@
 ghost use mathlib.Core.Path.{_≡_};
 ghost use mathlib.Core.Bool.{Bool, true};
 ghost use mathlib.Core.List.{List};
-ghost use Prim.Native.Nat.{ℕ, _*_, _<_, _≤_};
+ghost use Prim.Native.Nat.{ℕ, _≤_};
 ghost use Rattle.limits.specs.Limits.{soundLimits};
 ghost use Rattle.limits.specs.Events.{event, loseData, loseReply, tick};
 ghost use Rattle.air.specs.Data.{dataTable, soundDataTable};

@@ -1,8 +1,9 @@
 // Inner: called by soundlink. A run of a link that passed question 4, on its numbers and its arrays, which change in place.
 ghost use mathlib.Core.Path.{_≡_};
 ghost use mathlib.Core.Bool.{true};
-ghost use Prim.Native.Nat.{_+_, _/_, _%_, _^_, _<_, _≤_};
-ghost use lib.ListN.{length};
+ghost use Prim.Native.Nat.{_+_, _-_, _/_, _%_, _^_, _<_, _≤_};
+ghost use lib.ListN.{length, getD};
+ghost use Rattle.limits.specs.Answer.{numberOf};
 ghost use Rattle.link.specs.State.{added};
 ghost use Rattle.link.specs.View.{soundLink, shown, running};
 ghost use Rattle.link.specs.Lent.{arrays, linkOf, progressOf};
@@ -24,7 +25,7 @@ fn sum(a: Counts, b: Counts) -> Counts
     }
 }
 
-// Every event in order, each on the unsent rest of the supply and the unwritten rest of the record.
+// Every event in order, each on the unsent rest of the supply and the unwritten rest of the record. Gives the last answer.
 pub fn run(
     l: Limits,
     n: Numbers,
@@ -49,12 +50,14 @@ pub fn run(
         × (length (now events) % 2 ≡ 0) × (length (now events) / 2 ≤ length (now answers)) ⌝ }
     ensures { λ r. ⌜ (let k = linkOf l n (arrays (now (marks .entry)) (now (mattimers .entry)) (now (matcells .entry)) (now (held .entry)) (now (padtimers .entry)) (now (padcells .entry)) (now (numbers .entry)) (now (datalives .entry)) (now (datacells .entry)) (now (firsts .entry)) (now (lasts .entry)) (now (replylives .entry))) in
         let p = progressOf l (arrays (now (marks .exit)) (now (mattimers .exit)) (now (matcells .exit)) (now (held .exit)) (now (padtimers .exit)) (now (padcells .exit)) (now (numbers .exit)) (now (datalives .exit)) (now (datacells .exit)) (now (firsts .exit)) (now (lasts .exit)) (now (replylives .exit))) r in
-        (r .answer ≡ Answer.Done) × (soundLink (p .link) ≡ true)
+        (soundLink (p .link) ≡ true)
         × (record { moved = shown p (now («record» .exit)); answers = now (answers .exit) }
-        ≡ running k (now (events .entry)) (now (supply .entry)) (now («record» .entry)) (now (answers .entry)))) ⌝ }
+        ≡ running k (now (events .entry)) (now (supply .entry)) (now («record» .entry)) (now (answers .entry)))
+        × (1 ≤ length (now (events .entry)) / 2 → numberOf (r .answer) ≡ getD (now (answers .exit)) (length (now (events .entry)) / 2 - 1) 0)) ⌝ }
 {
     let count = events.len() / 2;
     let mut at = n;
+    let mut last = Answer::Done;
     let mut counts = Counts {
         sent: 0,
         acknowledged: 0,
@@ -84,10 +87,10 @@ pub fn run(
             &supply[sent..],
             &mut record[recorded..],
         );
-        let answer = s.answer;
-        answers[i] = limits::answer::number(answer);
+        last = s.answer;
+        answers[i] = limits::answer::number(last);
         i += 1;
-        let Answer::Done = answer else {
+        let Answer::Done = last else {
             continue;
         };
         at = s.numbers;
@@ -95,7 +98,7 @@ pub fn run(
         counts = sum(counts, more);
     }
     Step {
-        answer: Answer::Done,
+        answer: last,
         numbers: at,
         counts,
     }

@@ -106,7 +106,14 @@ pub fn run(
         if events.len() % 2 == 0 {
             if supply.len() % 16 == 0 {
                 if count <= answers.len() {
-                    soundlink::run(k, events, supply, record, answers)
+                    let r = soundlink::run(k, events, supply, record, answers);
+                    let link = r.link;
+                    let counts = r.counts;
+                    Progress {
+                        answer: Answer::Done,
+                        link,
+                        counts,
+                    }
                 } else {
                     soundlink::stays(k, Answer::ShortAnswers)
                 }

@@ -1,9 +1,10 @@
-// Inner: called by the link's public calls. An event and a run of a link that passed question 4. The link is taken apart once, so
+// Inner: called by the link's public calls. A run and an event of a link that passed question 4. The link is taken apart once, so
 // that its arrays can be lent and change in place, and put together again at the end.
 ghost use mathlib.Core.Path.{_≡_};
 ghost use mathlib.Core.Bool.{true, _&&_};
-ghost use Prim.Native.Nat.{_/_, _%_, _≤_};
-ghost use lib.ListN.{length};
+ghost use Prim.Native.Nat.{_-_, _/_, _%_, _≤_};
+ghost use lib.ListN.{length, getD};
+ghost use Rattle.limits.specs.Answer.{numberOf};
 ghost use Rattle.limits.specs.Limits.{soundLimits};
 ghost use Rattle.limits.specs.Events.{event};
 ghost use Rattle.mat.specs.View.{soundMat};
@@ -16,7 +17,6 @@ ghost use Rattle.link.specs.Lent.{arrays, numbersOf, linkOf};
 use crate::Counts;
 use crate::Link;
 use crate::Progress;
-use crate::lentlink;
 use crate::lentlink::Numbers;
 use crate::lentrun;
 use air::datatable::DataTable;
@@ -120,72 +120,7 @@ fn joined(
     }
 }
 
-// An event of two bytes: 8, 9, then the questions of its kind.
-pub fn event(k: Link, kind: u8, argument: u8, supply: &[u16], record: &mut [u16]) -> Progress
-    requires { ⌜ soundLink k ≡ true ⌝ }
-    ensures { λ r. ⌜ Moves k (now (supply .entry)) (now («record» .entry)) (now («record» .exit)) (event kind argument) r ⌝ }
-{
-    let l = k.limits;
-    let n = numbers_of(k);
-    let mut marks = k.mat.marks;
-    let mut mattimers = k.mat.timers;
-    let mut matcells = k.mat.cells;
-    let mut held = k.pad.held;
-    let mut padtimers = k.pad.timers;
-    let mut padcells = k.pad.cells;
-    let mut numbers = k.datas.numbers;
-    let mut datalives = k.datas.lives;
-    let mut datacells = k.datas.cells;
-    let mut firsts = k.replies.firsts;
-    let mut lasts = k.replies.lasts;
-    let mut replylives = k.replies.lives;
-    let s = lentlink::event(
-        l,
-        n,
-        &mut marks,
-        &mut mattimers,
-        &mut matcells,
-        &mut held,
-        &mut padtimers,
-        &mut padcells,
-        &mut numbers,
-        &mut datalives,
-        &mut datacells,
-        &mut firsts,
-        &mut lasts,
-        &mut replylives,
-        kind,
-        argument,
-        supply,
-        record,
-    );
-    let answer = s.answer;
-    let n = s.numbers;
-    let counts = s.counts;
-    let link = joined(
-        l,
-        n,
-        marks,
-        mattimers,
-        matcells,
-        held,
-        padtimers,
-        padcells,
-        numbers,
-        datalives,
-        datacells,
-        firsts,
-        lasts,
-        replylives,
-    );
-    Progress {
-        answer,
-        link,
-        counts,
-    }
-}
-
-// Every event in order.
+// Every event in order. Gives the last answer.
 pub fn run(
     k: Link,
     events: &[u8],
@@ -194,9 +129,10 @@ pub fn run(
     answers: &mut [u8],
 ) -> Progress
     requires { ⌜ (soundLink k ≡ true) × (length (now events) % 2 ≡ 0) × (length (now events) / 2 ≤ length (now answers)) ⌝ }
-    ensures { λ r. ⌜ (r .answer ≡ Answer.Done) × (soundLink (r .link) ≡ true)
+    ensures { λ r. ⌜ (soundLink (r .link) ≡ true)
         × (record { moved = shown r (now («record» .exit)); answers = now (answers .exit) }
-        ≡ running k (now (events .entry)) (now (supply .entry)) (now («record» .entry)) (now (answers .entry))) ⌝ }
+        ≡ running k (now (events .entry)) (now (supply .entry)) (now («record» .entry)) (now (answers .entry)))
+        × (1 ≤ length (now (events .entry)) / 2 → numberOf (r .answer) ≡ getD (now (answers .exit)) (length (now (events .entry)) / 2 - 1) 0) ⌝ }
 {
     let l = k.limits;
     let n = numbers_of(k);
@@ -256,4 +192,19 @@ pub fn run(
         link,
         counts,
     }
+}
+
+// An event of two bytes: 8, 9, then the questions of its kind. It is a run of one event.
+pub fn event(k: Link, kind: u8, argument: u8, supply: &[u16], record: &mut [u16]) -> Progress
+    requires { ⌜ soundLink k ≡ true ⌝ }
+    ensures { λ r. ⌜ Moves k (now (supply .entry)) (now («record» .entry)) (now («record» .exit)) (event kind argument) r ⌝ }
+{
+    let bytes = [kind, argument];
+    let mut answers = [0; 1];
+    let r = run(k, &bytes, supply, record, &mut answers);
+    let answer = r.answer;
+    let Answer::Done = answer else {
+        return stays(k, answer);
+    };
+    r
 }

@@ -6,15 +6,7 @@ ghost use lib.ListN.{replicate};
 ghost use Rattle.limits.specs.Questions.{ask, timeQuestions};
 ghost use Rattle.limits.specs.Limits.{soundLimits};
 ghost use Rattle.limits.specs.Tables.{soundReply};
-ghost use Rattle.mat.specs.Rules.{
-  sendQuestions,
-  sending,
-  resendQuestions,
-  resending,
-  acknowledgeQuestions,
-  acknowledging,
-  ticked,
-};
+ghost use Rattle.mat.specs.Rules.{sendQuestions, sending, resendQuestions, resending, acknowledgeQuestions, acknowledging, ticked};
 ghost use Rattle.mat.specs.View.{matState, freshMat, soundMat, SendCall, AcknowledgeCall, TickCall};
 
 pub mod soundmat;

@@ -3,36 +3,17 @@
 ghost use mathlib.Core.Path.{_≡_};
 ghost use mathlib.Core.Bool.{Bool, true, false, not, _&&_};
 ghost use mathlib.Core.List.{List};
-ghost use Prim.Native.Nat.{ℕ, _+_, _-_, _*_, _%_, _<_, _≤_};
-ghost use lib.Dec.{leb, ltb};
-ghost use lib.ListN.{length, getD, set, take, replicate};
+ghost use Prim.Native.Nat.{ℕ, _+_, _*_, _%_, _<_, _≤_};
+ghost use lib.Dec.{leb};
+ghost use lib.ListN.{getD, take, replicate};
 ghost use Rattle.limits.specs.Lists.{tab, all, leading};
 ghost use Rattle.limits.specs.Cells.{rowAt, legalRow};
 ghost use Rattle.limits.specs.Questions.{Answers};
 ghost use Rattle.limits.specs.Limits.{soundLimits};
 ghost use Rattle.limits.specs.Ring.{distance, step};
 ghost use Rattle.limits.specs.Tables.{soundReply};
-ghost use Rattle.mat.specs.Rules.{
-  sendQuestions,
-  sending,
-  resendQuestions,
-  resending,
-  acknowledgeQuestions,
-  passing,
-  acknowledging,
-  ticked,
-};
-ghost use Rattle.mat.specs.View.{
-  matOf,
-  outstandingOf,
-  markAt,
-  cellsAt,
-  matState,
-  soundNumbers,
-  soundMarks,
-  soundMat,
-  AcknowledgeCall,
-};
+ghost use Rattle.mat.specs.Rules.{sendQuestions, sending, resendQuestions, resending, acknowledgeQuestions, passing, acknowledging, ticked};
+ghost use Rattle.mat.specs.View.{matOf, outstandingOf, cellsAt, matState, soundNumbers, soundMarks, soundMat, AcknowledgeCall};
 use crate::Mat;
 use limits::Limits;
 use limits::answer::Answer;
@@ -184,15 +165,6 @@ pub fn next_row(l: Limits, oldest: usize, next: usize, supply: &[u16]) -> NextRo
     }
 }
 
-// Sets the timer at place `at`. The timers come as a slice, since an array lent as a slice tells its length to the proof and one
-// lent as an array does not.
-fn set_timer(timers: &mut [u16], at: usize, wait: u16)
-    requires { ⌜ at < length (now timers) ⌝ }
-    ensures { λ _. ⌜ now (timers .exit) ≡ set (now (timers .entry)) at wait ⌝ }
-{
-    timers[at] = wait;
-}
-
 // The row is kept as row next, and its timer is set. Gives the next number.
 pub fn keep(
     l: Limits,
@@ -213,7 +185,7 @@ pub fn keep(
     let w = l.window;
     let at = ring::slot(w, next);
     let wait = l.resendwait;
-    set_timer(timers, at, wait);
+    rows::set(timers, at, wait);
     rows::write(cells, 16 * at, row);
     ring::forward(2 * w, next, 1)
 }
@@ -271,7 +243,7 @@ pub fn again(l: Limits, number: usize, timers: &mut [u16; 32], cells: &[u16; 512
         ≡ resending l (matState (l .window) (matOf oldest next marks (now (timers .entry)) (now (cells .entry)))) k)) ⌝ }
 {
     let at = ring::slot(l.window, number);
-    set_timer(timers, at, l.resendwait);
+    rows::set(timers, at, l.resendwait);
     rows::load(cells, at)
 }
 
@@ -293,13 +265,6 @@ fn marked_run(marks: &[bool; 32], w: usize, from: usize, most: usize) -> usize
     n
 }
 
-// How many places the marks have. `mark_off` calls it for the proof alone: lent as a slice, an array tells its length.
-fn places(marks: &[bool]) -> usize
-    ensures { λ r. ⌜ r ≡ length (now (marks .entry)) ⌝ }
-{
-    marks.len()
-}
-
 // The `count` numbers from `first` on are marked, and oldest passes every marked number, whose marks are taken away.
 fn mark_off(
     l: Limits,
@@ -319,7 +284,6 @@ fn mark_off(
     let w = l.window;
     let out = ring::gap(2 * w, oldest, next);
     let from = ring::slot(w, oldest);
-    places(marks);
     rows::set_span(marks, w, ring::slot(w, first), count, true);
     let passed = marked_run(marks, w, from, out);
     rows::set_span(marks, w, from, passed, false);

@@ -98,11 +98,8 @@ pub fn hold(
         ≡ holding l (padState (l .window) (padOf wanted (now (held .entry)) (now (timers .entry)) (now (cells .entry)))) (record { number = number; row = row }))) ⌝ }
 {
     let at = ring::slot(l.window, number);
-    // as slices: a lent array's length is known to the proof only where it is made a slice
-    let marks: &mut [bool] = held;
-    marks[at] = true;
-    let waits: &mut [u16] = timers;
-    waits[at] = l.replywait;
+    rows::set_span(held, l.window, at, 1, true);
+    rows::set(timers, at, l.replywait);
     rows::write(cells, 16 * at, row);
 }
 

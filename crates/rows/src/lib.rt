@@ -1,7 +1,7 @@
 // Inner: called by air, mat and pad. Work on rows of 16 cells and on arrays of 32 entries, each helper with what it needs alone.
 ghost use mathlib.Core.Path.{_≡_};
-ghost use Prim.Native.Nat.{_+_, _-_, _*_, _≤_, _<_, _%_};
-ghost use lib.ListN.{length, take, drop, getD};
+ghost use Prim.Native.Nat.{_+_, _-_, _≤_, _<_, _%_};
+ghost use lib.ListN.{length, take, drop, getD, set};
 ghost use lib.Dec.{leb};
 ghost use Rattle.limits.specs.Lists.{tab, all};
 ghost use Rattle.limits.specs.Cells.{rowAt, legalRow};
@@ -37,13 +37,6 @@ pub fn load(cells: &[u16; 512], place: usize) -> [u16; 16]
     ensures { λ r. ⌜ r ≡ rowAt (now (cells .entry)) place ⌝ }
 {
     read(cells, 16 * place)
-}
-
-pub fn store(cells: &mut [u16; 512], place: usize, row: [u16; 16])
-    requires { ⌜ place < 32 ⌝ }
-    ensures { λ _. ⌜ now (cells .exit) ≡ written (16 * place) row (now (cells .entry)) ⌝ }
-{
-    write(cells, 16 * place, row);
 }
 
 pub fn legal_row(row: [u16; 16]) -> bool
@@ -108,17 +101,25 @@ pub fn close(xs: &mut [u16], at: usize, width: usize, end: usize)
     }
 }
 
+// Writes x at place `at`. Takes a slice, since a lent array shows its length to a proof only where it is lent on as a slice.
+pub fn set(xs: &mut [u16], at: usize, x: u16)
+    requires { ⌜ at < length (now xs) ⌝ }
+    ensures { λ _. ⌜ now (xs .exit) ≡ set (now (xs .entry)) at x ⌝ }
+{
+    xs[at] = x;
+}
+
 // The place behind `at`, round the ring.
 pub fn after(w: usize, at: usize) -> usize
-    requires { ⌜ (at < w) × (w ≤ 32) ⌝ }
+    requires { ⌜ at < w ⌝ }
     ensures { λ r. ⌜ r ≡ (at + 1) % w ⌝ }
 {
     if at + 1 < w { at + 1 } else { 0 }
 }
 
 // Sets the places of `count` numbers from `from` on, `from` below w.
-pub fn set_span(marks: &mut [bool; 32], w: usize, from: usize, count: usize, value: bool)
-    requires { ⌜ (w ≤ 32) × (from < w) × (count ≤ w) ⌝ }
+pub fn set_span(marks: &mut [bool], w: usize, from: usize, count: usize, value: bool)
+    requires { ⌜ (w ≤ length (now marks)) × (from < w) × (count ≤ w) ⌝ }
     ensures { λ _. ⌜ now (marks .exit) ≡ spanSet w from count value (now (marks .entry)) ⌝ }
 {
     let mut at = from;

@@ -69,6 +69,3 @@ moved-itself from to cells e = rw e (written-itself to cells)
 -- a row moved by way of a copy
 pub moved : (at : ℕ) (row copy cells next : List ℕ) → next ≡ written at copy cells → copy ≡ row → next ≡ written at row cells
 moved at row copy cells next e q = rw q at e
-
-pub length-moved : (at : ℕ) (row cells next : List ℕ) → next ≡ written at row cells → length cells ≡ 512 → length next ≡ 512
-length-moved at row cells next e l = ap length e ∙ length-written at row cells ∙ l

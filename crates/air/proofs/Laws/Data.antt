@@ -62,9 +62,9 @@ module _ (numbers lives cells : List ℕ) (l : length numbers ≡ 32) (m : lengt
         message-path _ _ _ _ _ _ (getD-set-other numbers k i number 0 ne) (written-other k i row cells n h ne) (getD-set-other lives k i life 0 ne)
 
     -- stored behind the others
-    pub data-put : (next : List ℕ) → next ≡ written (16 * k) row cells → k < 32 → length row ≡ 16
-        → tab (k + 1) (dataAt (set numbers k number) (set lives k life) next) ≡ put (message number row life) (tab k (dataAt numbers lives cells))
-    data-put next e h b = rw e (put-tab k _ _ _ (λ i c. stored-other i (omega arith) (λ e. omega arith)) (stored-same h b))
+    pub data-put : (ns vs cs : List ℕ) → ns ≡ set numbers k number → vs ≡ set lives k life → cs ≡ written (16 * k) row cells → k < 32 → length row ≡ 16
+        → tab (k + 1) (dataAt ns vs cs) ≡ put (message number row life) (tab k (dataAt numbers lives cells))
+    data-put ns vs cs en ev ec h b = rw (en, ev, ec) (put-tab k _ _ _ (λ i c. stored-other i (omega arith) (λ e. omega arith)) (stored-same h b))
 
   -- the gap of message p closed in each array
   pub data-remove : (p count : ℕ) (ns vs cs : List ℕ) → ns ≡ closed p 1 count numbers → vs ≡ closed p 1 count lives
@@ -80,11 +80,11 @@ module _ (numbers lives cells : List ℕ) (l : length numbers ≡ 32) (m : lengt
       (closed-high p 1 count lives i (omega arith) b d))))
 
   -- a turn of the loop that ages: message i goes to place k
-  pub data-moves : (d k i : ℕ) (old : ℕ → Message Data) (next : List ℕ) → Aging d k i old (dataAt numbers lives cells) → k ≤ i → i < 32
-      → d < getD lives i 0 → next ≡ written (16 * k) (rowAt cells i) cells
-      → Aging d (k + 1) (i + 1) old (dataAt (set numbers k (getD numbers i 0)) (set lives k (getD lives i 0 - d)) next)
-  data-moves d k i old next a h b c e =
-      rw e
+  pub data-moves : (d k i : ℕ) (old : ℕ → Message Data) (ns vs cs : List ℕ) → Aging d k i old (dataAt numbers lives cells) → k ≤ i → i < 32
+      → d < getD lives i 0 → ns ≡ set numbers k (getD numbers i 0) → vs ≡ set lives k (getD lives i 0 - d) → cs ≡ written (16 * k) (rowAt cells i) cells
+      → Aging d (k + 1) (i + 1) old (dataAt ns vs cs)
+  data-moves d k i old ns vs cs a h b c en ev ec =
+      rw (en, ev, ec)
       (aging-moves d old k i (dataAt numbers lives cells) _ a h b c
       (λ j o ne. stored-other k (getD numbers i 0) (getD lives i 0 - d) (rowAt cells i) j o ne)
       (stored-same k (getD numbers i 0) (getD lives i 0 - d) (rowAt cells i) (omega arith) (length-rowAt cells i n b)))

@@ -68,9 +68,9 @@ module _ (firsts lasts lives : List ℕ) (l : length firsts ≡ 32) (m : length 
         message-path _ _ _ _ _ _ (getD-set-other firsts k i first 0 ne) (getD-set-other lasts k i last 0 ne) (getD-set-other lives k i life 0 ne)
 
     -- stored behind the others
-    pub reply-put : k < 32
-        → tab (k + 1) (replyAt (set firsts k first) (set lasts k last) (set lives k life)) ≡ put (message first last life) (tab k (replyAt firsts lasts lives))
-    reply-put h = put-tab k _ _ _ (λ i c. stored-other i (λ e. omega arith)) (stored-same h)
+    pub reply-put : (fs ls vs : List ℕ) → fs ≡ set firsts k first → ls ≡ set lasts k last → vs ≡ set lives k life → k < 32
+        → tab (k + 1) (replyAt fs ls vs) ≡ put (message first last life) (tab k (replyAt firsts lasts lives))
+    reply-put fs ls vs ef el ev h = rw (ef, el, ev) (put-tab k _ _ _ (λ i c. stored-other i (λ e. omega arith)) (stored-same h))
 
   -- the gap of message p closed in each array
   pub reply-remove : (p count : ℕ) (fs ls vs : List ℕ) → fs ≡ closed p 1 count firsts → ls ≡ closed p 1 count lasts → vs ≡ closed p 1 count lives
@@ -85,9 +85,11 @@ module _ (firsts lasts lives : List ℕ) (l : length firsts ≡ 32) (m : length 
       (closed-high p 1 count lives i (omega arith) b d))))
 
   -- a turn of the loop that ages: message i goes to place k
-  pub reply-moves : (d k i : ℕ) (old : ℕ → Message Reply) → Aging d k i old (replyAt firsts lasts lives) → k ≤ i → i < 32 → d < getD lives i 0
-      → Aging d (k + 1) (i + 1) old (replyAt (set firsts k (getD firsts i 0)) (set lasts k (getD lasts i 0)) (set lives k (getD lives i 0 - d)))
-  reply-moves d k i old a h b c =
-      aging-moves d old k i (replyAt firsts lasts lives) _ a h b c
+  pub reply-moves : (d k i : ℕ) (old : ℕ → Message Reply) (fs ls vs : List ℕ) → Aging d k i old (replyAt firsts lasts lives) → k ≤ i → i < 32 → d < getD lives i 0
+      → fs ≡ set firsts k (getD firsts i 0) → ls ≡ set lasts k (getD lasts i 0) → vs ≡ set lives k (getD lives i 0 - d)
+      → Aging d (k + 1) (i + 1) old (replyAt fs ls vs)
+  reply-moves d k i old fs ls vs a h b c ef el ev =
+      rw (ef, el, ev)
+      (aging-moves d old k i (replyAt firsts lasts lives) _ a h b c
       (λ j _ ne. stored-other k (getD firsts i 0) (getD lasts i 0) (getD lives i 0 - d) j ne)
-      (stored-same k (getD firsts i 0) (getD lasts i 0) (getD lives i 0 - d) (omega arith))
+      (stored-same k (getD firsts i 0) (getD lasts i 0) (getD lives i 0 - d) (omega arith)))

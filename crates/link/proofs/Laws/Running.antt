@@ -6,7 +6,7 @@ use mathlib.Core.List.{List, [], _∷_, _++_, append-assoc, append-nil}
 use native.Mathlib.Omega.{arith}
 use lib.Dec.{eqb}
 use lib.ListN.{length, take, drop, getD, set, length-append, length-drop, length-set, take-append-drop, drop-of-length-le}
-use lib.Seq.{drop-cons, take-suc-set, drop-set-lt, drop-drop, length-take-le, take-all}
+use lib.Seq.{getD-set-same, drop-cons, take-suc-set, drop-set-lt, drop-drop, length-take-le, take-all}
 use native.Mathlib.Numerals.{add-one}
 use borrow.Author.Tests.{eqb-false}
 use native.Mathlib.Nat.{add-zero}
@@ -18,6 +18,7 @@ use Rattle.mat.specs.Window.{Kept, outstanding}
 use Rattle.mat.specs.View.{outstandingOf, markAt, cellsAt, matState, matOf}
 use Rattle.mat.proofs.Laws.Sound.{facts}
 use Rattle.limits.specs.declared.Limits.{Limits}
+use Rattle.limits.specs.declared.answer.Answer.{Answer}
 use Rattle.pad.specs.View.{padOf}
 use Rattle.air.specs.Data.{dataTable}
 use Rattle.air.specs.Replies.{replyTable}
@@ -59,6 +60,16 @@ pub room : (bytes supply rec₀ ans₀ : List ℕ) (k : Link) (rec ans : List �
     → Room bytes supply rec ans counts i
 room bytes supply rec₀ ans₀ k rec ans link counts i g h z f =
     record { event = omega arith; answer = let s = g .same-answers in omega arith; sent = g .sent; recorded = g .recorded }
+
+-- the answer of the last event is the one that was written last
+abbrev pub Last : Answer → List ℕ → ℕ → Type 0
+Last a ans i = 1 ≤ i → numberOf a ≡ getD ans (i - 1) 0
+
+pub last-set : (a : Answer) (ans : List ℕ) (i n : ℕ) → i < length ans → n ≡ numberOf a → Last a (set ans i n) (i + 1)
+last-set a ans i n h e _ = sym (ap (λ j. getD (set ans i n) j 0) {x = i + 1 - 1} {y = i} (omega arith) ∙ getD-set-same ans i n 0 h ∙ e)
+
+pub last-at : (a : Answer) (ans : List ℕ) (i count : ℕ) → i ≡ count → Last a ans i → Last a ans count
+last-at a ans i count e h = rw e at h
 
 -- at most 32 rows are outstanding
 outstanding-fits : (k : Link) → soundLink k ≡ true → outstanding (linkState k .mat) ≤ 32

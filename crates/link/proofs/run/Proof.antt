@@ -1,7 +1,7 @@
 use borrow.Author.Needs.{needs}
 use Rattle.link.proofs.run.Statement.{statement}
 use Rattle.link.proofs.run.Tie as tie
-use mathlib.Core.Path.{sym, _∙_}
+use mathlib.Core.Path.{refl, sym, _∙_}
 use Rattle.link.proofs.Laws.Calls.{run-unsound, run-odd, run-partial, run-short, run-done}
 
 sound-requires : tie.Need-sound-requires
@@ -29,8 +29,8 @@ same-length-2 : tie.Need-same-length-2
 same-length-2 c = search needs
 
 returns : tie.Need-returns
-returns c = let r = c .before .before .before .before in let f = r .before .before .before in let s = f .before .before .before .before in
-    run-done _ (s .before .before .before .before .before .args .events .now) _ _ _ _ (sym (s .sound .ensures) ∙ f .before .before .before .if1 .taken) (f .before .before .if2 .taken) (f .before .if3 .taken) _ _ (f .if4 .taken) (r .run .ensures)
+returns c = let r = c .before .before .before .before .before .before in let f = r .before .before .before in let s = f .before .before .before .before in
+    run-done _ (s .before .before .before .before .before .args .events .now) _ _ _ _ (sym (s .sound .ensures) ∙ f .before .before .before .if1 .taken) (f .before .before .if2 .taken) (f .before .if3 .taken) _ _ (f .if4 .taken) (refl, r .run .ensures .0, r .run .ensures .1)
 
 returns-2 : tie.Need-returns-2
 returns-2 c = let f = c .before in let s = f .before .before .before .before in

@@ -2,7 +2,6 @@
 use Prim.Native.Nat.{ℕ, _*_, _<_}
 use mathlib.Core.Path.{_≡_, refl, _∙_, ap}
 use mathlib.Core.Bool.{true}
-use mathlib.Core.List.{List}
 use native.Mathlib.Omega.{arith}
 use lib.ListN.{length}
 use borrow.Author.Tests.{ltb-true}
@@ -18,17 +17,11 @@ use Rattle.limits.proofs.Laws.Questions.{each}
 use Rattle.limits.proofs.Laws.Ring.{step-fits}
 use Rattle.mat.specs.declared.Mat.{Mat}
 use Rattle.mat.specs.Window.{Kept, noRow}
-use Rattle.mat.specs.Rules.{sendQuestions, sending, resendQuestions, resending}
+use Rattle.mat.specs.Rules.{resendQuestions, resending}
 use Rattle.mat.specs.View.{outstandingOf, markAt, cellsAt, matState, soundMat}
 use Rattle.mat.proofs.Laws.Sound.{facts}
 
 module _ (l : Limits) (m : Mat) (g : soundLimits l ≡ true) (s : soundMat l m ≡ true) where
-  pub sending-sound : (supply : List ℕ) → firstNo (sendQuestions l (matState (l .window) m) supply) ≡ 0
-      → soundData l (sending l (matState (l .window) m) supply .message) ≡ true
-  unfolding sending matState all
-  sending-sound supply e =
-      let q = each (sendQuestions l (matState (l .window) m) supply) refl e in data-sound l _ (facts l m g s .numbers .next) (q .1 .1 .0)
-
   pub resending-sound : (k : ℕ) → firstNo (resendQuestions l (matState (l .window) m) k) ≡ 0
       → soundData l (resending l (matState (l .window) m) k .message) ≡ true
   unfolding resending matState all

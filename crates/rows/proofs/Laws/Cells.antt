@@ -7,7 +7,7 @@ use lib.ListN.{length, getD, take, drop, length-take, length-drop}
 use lib.Seq.{ext-getD, getD-take, getD-drop}
 use Rattle.limits.specs.Cells.{rowAt}
 use Rattle.limits.proofs.Laws.Choice.{split}
-use Rattle.rows.specs.Arrays.{changed, from-to, written, fallen}
+use Rattle.rows.specs.Arrays.{changed, from-to, written}
 use Rattle.rows.proofs.Laws.Changed.{length-changed, changed-at, changed-other, inside, below, above}
 
 pub length-part : (cells : List ℕ) (at : ℕ) → at + 16 ≤ length cells → length (take 16 (drop at cells)) ≡ 16
@@ -54,8 +54,3 @@ written-other p q row cells n h ne =
     ∙ changed-other 0 _ _ cells (16 * q + i)
     (split q p (λ o. below (16 * p) (16 * p + 16) (16 * q + i) (omega arith)) (λ o. above (16 * p) (16 * p + 16) (16 * q + i) (omega arith)))
     ∙ sym (getD-take 16 (drop (16 * q) cells) i 0 (omega arith) ∙ getD-drop (16 * q) cells i 0))
-
--- an entry that fell
-pub fallen-at : (n d : ℕ) (xs : List ℕ) (i : ℕ) → n ≤ length xs → i < n → getD (fallen n d xs) i 0 ≡ getD xs i 0 - d
-unfolding fallen
-fallen-at n d xs i l h = changed-at 0 _ _ xs i (omega arith) (inside 0 n i (omega arith) h)

@@ -4,7 +4,7 @@ use mathlib.Core.Path.{_≡_, refl, sym, _∙_, ap}
 use mathlib.Core.Bool.{Bool, false, _&&_}
 use mathlib.Core.List.{List}
 use native.Mathlib.Omega.{arith}
-use native.Mathlib.Nat.{mod-lt, mod-eq-of-lt, mod-add-mod}
+use native.Mathlib.Nat.{mod-lt, mod-eq-of-lt, mod-self, mod-add-mod}
 use lib.Dec.{eqb, ltb}
 use borrow.Author.Tests.{lt-ltb, le-ltb, eqb-true, eqb-false}
 use lib.ListN.{length, getD, set}
@@ -43,12 +43,22 @@ span-turn w at i value xs ys h k e =
     (λ o. and-no-left _ _ (le-ltb p w o) ∙ sym (and-no-left _ _ (le-ltb p w o)))
     (λ o. ap (ltb p w &&_) (one-more (distance w at p) i (λ q. ne (sym (ap (λ j. (at + j) % w) (sym q) ∙ distance-is w at p h o)))))))
 
+-- the place behind `at`, where that is the last one and where it is not
+pub behind-last : (w at : ℕ) → at + 1 ≡ w → 0 ≡ (at + 1) % w
+behind-last w at e = sym (ap (_% w) e ∙ mod-self w)
+
+pub behind : (w at : ℕ) → at + 1 < w → at + 1 ≡ (at + 1) % w
+behind w at h = sym (mod-eq-of-lt h)
+
 -- the next place
 pub next-place : (w from i at to : ℕ) → at ≡ (from + i) % w → to ≡ (at + 1) % w → to ≡ (from + (i + 1)) % w
 next-place w from i at to e q = q ∙ ap (λ a. (a + 1) % w) e ∙ mod-add-mod (from + i) w 1 ∙ ap (_% w) {x = from + i + 1} {y = from + (i + 1)} (omega arith)
 
 pub place-below : (w a : ℕ) → 1 ≤ w → a % w < w
 place-below w a h = mod-lt a h
+
+pub at-below : (w a at : ℕ) → 1 ≤ w → at ≡ a % w → at < w
+at-below w a at h e = rw e (mod-lt a h)
 
 pub next-below : (w at to : ℕ) → at < w → to ≡ (at + 1) % w → to < w
 next-below w at to h e = rw e (mod-lt (at + 1) (omega arith))
@@ -93,3 +103,7 @@ module _ (w o d k : ℕ) (h : d < w) (j : k < w) where
 
 pub first-place : (w from : ℕ) → from < w → from ≡ (from + 0) % w
 first-place w from h = sym (ap (_% w) {x = from + 0} {y = from} (omega arith) ∙ mod-eq-of-lt h)
+
+-- a span of one number is its place
+pub span-one : (w at : ℕ) (value : Bool) (xs : List Bool) → at < w → spanSet w at 1 value xs ≡ set xs at value
+span-one w at value xs h = sym (span-turn-at w at 0 at value xs xs h (omega arith) (first-place w at h) (span-start w at value xs))

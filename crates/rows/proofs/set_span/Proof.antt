@@ -1,13 +1,12 @@
-use Rattle.rows.proofs.Laws.Places.{next-below, span-turn-at, span-end, span-start, next-place}
-use native.Mathlib.Nat.{mod-eq-of-lt}
+use Rattle.rows.proofs.set_span.Statement.{statement}
+use Rattle.rows.proofs.set_span.Tie as tie
+use Rattle.rows.proofs.Laws.Places.{next-below, span-turn-at, span-end, span-start, next-place, first-place}
 use Rattle.rows.specs.Arrays.{spanSet}
 use lib.ListN.{length, length-set}
-use mathlib.Core.Path.{_≡_, refl, sym, _∙_, ap}
+use mathlib.Core.Path.{_≡_, refl}
 use Prim.Native.Nat.{_+_, _-_, _%_, _≤_, _<_}
 use native.Mathlib.Omega.{arith}
 use borrow.Author.Needs.{needs}
-use Rattle.rows.proofs.set_span.Statement.{statement}
-use Rattle.rows.proofs.set_span.Tie as tie
 
 abbrev Inv-loop : tie.InvT-loop
 Inv-loop marks₀ w from count value at₀ i₀ marks at i = (i ≤ count) × (at ≡ (from + i) % w) × (at < w) × (length marks ≡ length marks₀) × (marks ≡ spanSet w from i value marks₀)
@@ -16,10 +15,10 @@ abbrev μ-loop : tie.MeasureT-loop
 μ-loop marks₀ w from count value at₀ i₀ marks at i = count - i
 
 loop-holds : tie.Need-loop-holds Inv-loop μ-loop
-loop-holds c = (search needs, sym (ap (_% c .args .w) {x = c .args .from + 0} {y = c .args .from} (omega arith) ∙ mod-eq-of-lt (c .pre .1)), c .pre .1, refl, span-start _ _ _ _)
+loop-holds c = (search needs, first-place _ _ (c .before .pre .1), c .before .pre .1, refl, span-start _ _ _ _)
 
-element-write-marks : tie.Need-element-write-marks Inv-loop μ-loop
-element-write-marks c = omega arith
+slice-write-marks : tie.Need-slice-write-marks Inv-loop μ-loop
+slice-write-marks c = omega arith
 
 after-requires : tie.Need-after-requires Inv-loop μ-loop
 after-requires c κs = omega arith
@@ -31,7 +30,10 @@ loop-less : tie.Need-loop-less Inv-loop μ-loop
 loop-less c = omega arith
 
 loop-again : tie.Need-loop-again Inv-loop μ-loop
-loop-again c = let h : c .before .before .loop .i < c .before .before .before .args .w = omega arith in (omega arith, next-place _ _ _ _ _ (c .before .before .loop .inv .1) (c .after .ensures), next-below _ _ _ (c .before .before .loop .inv .2) (c .after .ensures), simp length-set (c .before .before .loop .inv .3), span-turn-at _ _ _ _ _ _ _ (c .before .before .before .pre .1) h (c .before .before .loop .inv .1) (c .before .before .loop .inv .4))
+loop-again c = let l = c .before .before .loop in let s = c .before .before .before .before in let h : l .i < s .args .w = omega arith in (omega arith, next-place _ _ _ _ _ (l .inv .1) (c .after .ensures), next-below _ _ _ (l .inv .2) (c .after .ensures), simp length-set (l .inv .3), span-turn-at _ _ _ _ _ _ _ (s .pre .1) h (l .inv .1) (l .inv .4))
+
+same-length : tie.Need-same-length Inv-loop μ-loop
+same-length c = c .before .loop .inv .3
 
 returns : tie.Need-returns Inv-loop μ-loop
 returns c = span-end _ _ _ _ _ _ _ (c .before .loop .inv .4) (omega arith)
@@ -43,9 +45,10 @@ set-span-spec =
     Inv-loop
     μ-loop
     loop-holds
-    element-write-marks
+    slice-write-marks
     after-requires
     add-i
     loop-less
     loop-again
+    same-length
     returns)

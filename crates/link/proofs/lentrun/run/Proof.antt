@@ -1,23 +1,24 @@
 use Rattle.link.proofs.lentrun.run.Statement.{statement}
 use Rattle.link.proofs.lentrun.run.Tie as tie
-use Prim.Native.Nat.{_-_, _≤_}
-use mathlib.Core.Path.{refl}
+use Prim.Native.Nat.{_-_, _≤_, _/_}
 use native.Mathlib.Omega.{arith}
 use borrow.Author.Needs.{needs}
 use Rattle.limits.proofs.Laws.Promise.{not-done}
 use Rattle.link.specs.Lent.{arrays, linkOf}
-use Rattle.link.proofs.Laws.Running.{Going, room, starts, arrays-kept, turn-done, turn-refused, counts-fit, finishes}
+use Rattle.link.proofs.Laws.Running.{Going, Last, room, starts, arrays-kept, turn-done, turn-refused, counts-fit, finishes, last-set, last-at}
+use mathlib.Core.Path.{_≡_}
+use lib.ListN.{length}
 
 abbrev Inv-loop : tie.InvT-loop
-Inv-loop l marks₀ mattimers₀ matcells₀ held₀ padtimers₀ padcells₀ numbers₀ datalives₀ datacells₀ firsts₀ lasts₀ replylives₀ events supply record₀ answers₀ count at₀ counts₀ i₀ marks mattimers matcells held padtimers padcells numbers datalives datacells firsts lasts replylives «record» answers at counts i =
-    (i ≤ count) × Going events supply record₀ answers₀ (linkOf l at₀ (arrays marks₀ mattimers₀ matcells₀ held₀ padtimers₀ padcells₀ numbers₀ datalives₀ datacells₀ firsts₀ lasts₀ replylives₀)) «record» answers (linkOf l at (arrays marks mattimers matcells held padtimers padcells numbers datalives datacells firsts lasts replylives)) counts i
+Inv-loop l marks₀ mattimers₀ matcells₀ held₀ padtimers₀ padcells₀ numbers₀ datalives₀ datacells₀ firsts₀ lasts₀ replylives₀ events supply record₀ answers₀ count at₀ last₀ counts₀ i₀ marks mattimers matcells held padtimers padcells numbers datalives datacells firsts lasts replylives «record» answers at last counts i =
+    (i ≤ count) × Going events supply record₀ answers₀ (linkOf l at₀ (arrays marks₀ mattimers₀ matcells₀ held₀ padtimers₀ padcells₀ numbers₀ datalives₀ datacells₀ firsts₀ lasts₀ replylives₀)) «record» answers (linkOf l at (arrays marks mattimers matcells held padtimers padcells numbers datalives datacells firsts lasts replylives)) counts i × Last last answers i
 
 abbrev μ-loop : tie.MeasureT-loop
-μ-loop l marks₀ mattimers₀ matcells₀ held₀ padtimers₀ padcells₀ numbers₀ datalives₀ datacells₀ firsts₀ lasts₀ replylives₀ events supply record₀ answers₀ count at₀ counts₀ i₀ marks mattimers matcells held padtimers padcells numbers datalives datacells firsts lasts replylives «record» answers at counts i =
+μ-loop l marks₀ mattimers₀ matcells₀ held₀ padtimers₀ padcells₀ numbers₀ datalives₀ datacells₀ firsts₀ lasts₀ replylives₀ events supply record₀ answers₀ count at₀ last₀ counts₀ i₀ marks mattimers matcells held padtimers padcells numbers datalives datacells firsts lasts replylives «record» answers at last counts i =
     count - i
 
 loop-holds : tie.Need-loop-holds Inv-loop μ-loop
-loop-holds c = let b = c .before .before .before .before in (omega arith, starts _ _ _ _ _ (b .pre .0))
+loop-holds c = let b = c .before .before .before .before in (omega arith, starts _ _ _ _ _ (b .pre .0), λ h. absurd (omega arith))
 
 mul-sent : tie.Need-mul-sent Inv-loop μ-loop
 mul-sent c = let l = c .before .before in let b = c .before .before .before .before .before .before .before in let t = c .before .loop-test .taken in let g = l .loop .inv .1 in let r = room _ _ _ _ _ _ _ _ _ _ g t (b .pre .1) (b .pre .2) in
@@ -97,7 +98,7 @@ loop-less c = omega (arith, c .before .before .before .before .before .before .b
 
 loop-again : tie.Need-loop-again Inv-loop μ-loop
 loop-again c = let l = c .before .before .before .before .before .before .before .before .before .before .before .before .before .before .before .before .before .before .before .before .before .before .before .before in let b = c .before .before .before .before .before .before .before .before .before .before .before .before .before .before .before .before .before .before .before .before .before .before .before .before .before .before .before .before .before in let t = c .before .before .before .before .before .before .before .before .before .before .before .before .before .before .before .before .before .before .before .before .before .before .before .loop-test .taken in let g = l .loop .inv .1 in let r = room _ _ _ _ _ _ _ _ _ _ g t (b .pre .1) (b .pre .2) in
-    (omega (arith, t), turn-refused _ _ _ _ _ _ _ _ _ _ g (r .event) (r .answer) _ _ (c .before .before .before .before .event .ensures (g .sound)) (c .before .before .before .before .event .kept .1 .1 .1 .1 .1 .1 .1 .1 .1 .1 .1 .1 .1 .1 .1 .1 .1 .0) (c .before .number .result) (c .before .number .ensures) (not-done (c .before .before .before .before .event .result .answer) (c .match .keys2)) _ (arrays-kept _ _ _ _ _))
+    (omega (arith, t), turn-refused _ _ _ _ _ _ _ _ _ _ g (r .event) (r .answer) _ _ (c .before .before .before .before .event .ensures (g .sound)) (c .before .before .before .before .event .kept .1 .1 .1 .1 .1 .1 .1 .1 .1 .1 .1 .1 .1 .1 .1 .1 .1 .0) (c .before .number .result) (c .before .number .ensures) (not-done (c .before .before .before .before .event .result .answer) (c .match .keys2)) _ (arrays-kept _ _ _ _ _), last-set (c .before .before .before .before .event .result .answer) (l .loop .answers) _ _ (r .answer) (c .before .number .ensures))
 
 sum-requires : tie.Need-sum-requires Inv-loop μ-loop
 sum-requires c κs = let l = c .before .before .before .before .before .before .before .before .before .before .before .before .before .before .before .before .before .before .before .before .before .before .before .before .before .before .before in let b = c .before .before .before .before .before .before .before .before .before .before .before .before .before .before .before .before .before .before .before .before .before .before .before .before .before .before .before .before .before .before .before .before in let t = c .before .before .before .before .before .before .before .before .before .before .before .before .before .before .before .before .before .before .before .before .before .before .before .before .before .before .loop-test .taken in let g = l .loop .inv .1 in let r = room _ _ _ _ _ _ _ _ _ _ g t (b .pre .1) (b .pre .2) in
@@ -108,7 +109,7 @@ loop-less-2 c = omega (arith, c .before .before .before .before .before .before 
 
 loop-again-2 : tie.Need-loop-again-2 Inv-loop μ-loop
 loop-again-2 c = let l = c .before .before .before .before .before .before .before .before .before .before .before .before .before .before .before .before .before .before .before .before .before .before .before .before .before .before .before .before in let b = c .before .before .before .before .before .before .before .before .before .before .before .before .before .before .before .before .before .before .before .before .before .before .before .before .before .before .before .before .before .before .before .before .before in let t = c .before .before .before .before .before .before .before .before .before .before .before .before .before .before .before .before .before .before .before .before .before .before .before .before .before .before .before .loop-test .taken in let g = l .loop .inv .1 in let r = room _ _ _ _ _ _ _ _ _ _ g t (b .pre .1) (b .pre .2) in
-    (omega (arith, t), turn-done _ _ _ _ _ _ _ _ _ _ g (r .event) (r .answer) _ _ (c .before .before .before .before .before .before .before .before .event .ensures (g .sound)) (c .before .before .before .before .before .before .before .before .event .kept .1 .1 .1 .1 .1 .1 .1 .1 .1 .1 .1 .1 .1 .1 .1 .1 .1 .0) (c .before .before .before .before .before .number .result) (c .before .before .before .before .before .number .ensures) _ (c .sum .ensures))
+    (omega (arith, t), turn-done _ _ _ _ _ _ _ _ _ _ g (r .event) (r .answer) _ _ (c .before .before .before .before .before .before .before .before .event .ensures (g .sound)) (c .before .before .before .before .before .before .before .before .event .kept .1 .1 .1 .1 .1 .1 .1 .1 .1 .1 .1 .1 .1 .1 .1 .1 .1 .0) (c .before .before .before .before .before .number .result) (c .before .before .before .before .before .number .ensures) _ (c .sum .ensures), last-set (c .before .before .before .before .before .before .before .before .event .result .answer) (l .loop .answers) _ _ (r .answer) (c .before .before .before .before .before .number .ensures))
 
 same-length : tie.Need-same-length Inv-loop μ-loop
 same-length c = search needs
@@ -117,8 +118,8 @@ same-length-2 : tie.Need-same-length-2 Inv-loop μ-loop
 same-length-2 c = search needs
 
 returns : tie.Need-returns Inv-loop μ-loop
-returns c = let l = c .before in let b = c .before .before .before .before .before .before in let g = l .loop .inv .1 in
-    (refl, g .sound, finishes _ _ _ _ _ _ _ _ _ (l .loop .i) (b .pre .1) (omega (arith, l .loop .inv .0, c .loop-test .left)) (omega (arith, b .pre .2, g .same-answers)) g)
+returns c = let l = c .before in let b = c .before .before .before .before .before .before in let g = l .loop .inv .1 in let e : l .loop .i ≡ length (b .args .events .now) / 2 = omega (arith, l .loop .inv .0, c .loop-test .left) in
+    (g .sound, finishes _ _ _ _ _ _ _ _ _ (l .loop .i) (b .pre .1) e (omega (arith, b .pre .2, g .same-answers)) g, last-at (l .loop .last) (l .loop .answers) (l .loop .i) _ e (l .loop .inv .2))
 
 pub run-spec : {M : Type 1} → statement M
 run-spec =

@@ -2,6 +2,7 @@ use borrow.Author.Needs.{needs}
 use Rattle.link.proofs.padevents.reply.Statement.{statement}
 use Rattle.link.proofs.padevents.reply.Tie as tie
 use mathlib.Core.Path.{refl, sym, _∙_, ap}
+use Prim.Native.Nat.{_*_, _≤_}
 use native.Mathlib.Omega.{arith}
 use lib.ListN.{length}
 use Rattle.limits.specs.Answer.{numberOf}
@@ -43,7 +44,7 @@ room-requires c κs = search needs
 record-run-requires : tie.Need-record-run-requires
 record-run-requires c κs = let s = c .before .before .before .before .before .before .before .before .before .before in let a = c .before .before .before .before .before .before .before .run-length .ensures (s .args .padcells .now) in let e = ap numberOf (c .before .before .before .before .before .enum-told .given .1) in
     let n = count-is (padState (s .args .l .window) (padOf (s .args .n .wanted) (s .args .held .now) (s .args .padtimers .now) (s .args .padcells .now))) _ a e in let r = some-ready (padState (s .args .l .window) (padOf (s .args .n .wanted) (s .args .held .now) (s .args .padtimers .now) (s .args .padcells .now))) _ a e in let m = count-fits (s .args .l) (s .pre .0) (padOf (s .args .n .wanted) (s .args .held .now) (s .args .padtimers .now) (s .args .padcells .now)) (s .pre .1) _ n in
-    (s .pre .0, facts (s .args .l) (padOf (s .args .n .wanted) (s .args .held .now) (s .args .padtimers .now) (s .args .padcells .now)) (s .pre .1) .low, omega (arith, n, r), m .0, c .before .before .before .before .if1 .taken)
+    (s .pre .0, facts (s .args .l) (padOf (s .args .n .wanted) (s .args .held .now) (s .args .padtimers .now) (s .args .padcells .now)) (s .pre .1) .low, omega (arith, n, r), m .0, omega (arith, c .before .before .before .before .if1 .taken))
 
 put-requires : tie.Need-put-requires
 put-requires c κs = let s = c .before .before .before .before .before .before .before .before .before .before .before .before .before .before .before .before in let a = c .before .before .before .before .before .before .before .before .before .before .before .before .before .run-length .ensures (s .args .padcells .now) in let e = ap numberOf (c .before .before .before .before .before .before .before .before .before .before .before .enum-told .given .1) in
@@ -62,14 +63,14 @@ same-length c = search needs
 returns-2 : tie.Need-returns-2
 returns-2 c = let s = c .before .before .before .before .before .before .before .before .before .before .before .before .before .before .before .before .before in let u = c .before .before .before .before .before .before .before .before .before .before .before .before .before .before .run-length in
     let a = u .ensures (s .args .padcells .now) in let e = ap numberOf (c .before .before .before .before .before .before .before .before .before .before .before .before .enum-told .given .1) in
-    let v = c .before .before .before .before .before .before .record-run in let n = count-is (padState (s .args .l .window) (padOf (s .args .n .wanted) (s .args .held .now) (s .args .padtimers .now) (s .args .padcells .now))) _ a e in let r = some-ready (padState (s .args .l .window) (padOf (s .args .n .wanted) (s .args .held .now) (s .args .padtimers .now) (s .args .padcells .now))) _ a e in let fits = c .before .before .before .before .before .before .before .before .before .before .before .if1 .taken in
+    let v = c .before .before .before .before .before .before .record-run in let n = count-is (padState (s .args .l .window) (padOf (s .args .n .wanted) (s .args .held .now) (s .args .padtimers .now) (s .args .padcells .now))) _ a e in let r = some-ready (padState (s .args .l .window) (padOf (s .args .n .wanted) (s .args .held .now) (s .args .padtimers .now) (s .args .padcells .now))) _ a e in let fits : 16 * u .result .count ≤ length (s .args .«record» .now) = omega (arith, c .before .before .before .before .before .before .before .before .before .before .before .if1 .taken) in
     λ marks mattimers matcells numbers datalives datacells h. let p = parts _ h in
     replies _ p (s .args .«record» .now) _ (all-pass (padState (s .args .l .window) (padOf (s .args .n .wanted) (s .args .held .now) (s .args .padtimers .now) (s .args .padcells .now))) _ (replyMessages (replyTable (s .args .n .replies) (s .args .firsts .now) (s .args .lasts .now) (s .args .replylives .now))) r _ n fits (reply-room (replyTable (s .args .n .replies) (s .args .firsts .now) (s .args .lasts .now) (s .args .replylives .now)) _ (sym (c .before .before .before .before .before .before .before .before .before .before .room .ensures) ∙ c .before .before .before .before .before .before .before .before .before .if2 .taken))) _ (reply-done (s .args .l) (padOf (s .args .n .wanted) (s .args .held .now) (s .args .padtimers .now) (s .args .padcells .now)) _ (s .args .«record» .now) _ _ _ (u .result .answer) e r n fits (v .ensures (s .args .padtimers .now) (p .pad) n)) _ (u .result .answer) e (c .put .ensures)
 
 returns-3 : tie.Need-returns-3
 unfolding linkState
 returns-3 c = let s = c .before .before .before .before .before .before .before .before .before in let a = c .before .before .before .before .before .before .run-length .ensures (s .args .padcells .now) in let e = ap numberOf (c .before .before .before .before .enum-told .given .1) in
-    λ marks mattimers matcells numbers datalives datacells h. lent-refused _ _ _ _ _ _ _ _ _ refl (c .stays2 .ensures) (table-full (padState (s .args .l .window) (padOf (s .args .n .wanted) (s .args .held .now) (s .args .padtimers .now) (s .args .padcells .now))) _ (replyMessages (replyTable (s .args .n .replies) (s .args .firsts .now) (s .args .lasts .now) (s .args .replylives .now))) (some-ready (padState (s .args .l .window) (padOf (s .args .n .wanted) (s .args .held .now) (s .args .padtimers .now) (s .args .padcells .now))) _ a e) _ (count-is (padState (s .args .l .window) (padOf (s .args .n .wanted) (s .args .held .now) (s .args .padtimers .now) (s .args .padcells .now))) _ a e) (c .before .before .before .if1 .taken) (reply-room (replyTable (s .args .n .replies) (s .args .firsts .now) (s .args .lasts .now) (s .args .replylives .now)) _ (sym (c .before .before .room .ensures) ∙ c .before .if2 .left))) refl
+    λ marks mattimers matcells numbers datalives datacells h. lent-refused _ _ _ _ _ _ _ _ _ refl (c .stays2 .ensures) (table-full (padState (s .args .l .window) (padOf (s .args .n .wanted) (s .args .held .now) (s .args .padtimers .now) (s .args .padcells .now))) _ (replyMessages (replyTable (s .args .n .replies) (s .args .firsts .now) (s .args .lasts .now) (s .args .replylives .now))) (some-ready (padState (s .args .l .window) (padOf (s .args .n .wanted) (s .args .held .now) (s .args .padtimers .now) (s .args .padcells .now))) _ a e) _ (count-is (padState (s .args .l .window) (padOf (s .args .n .wanted) (s .args .held .now) (s .args .padtimers .now) (s .args .padcells .now))) _ a e) (let fits : 16 * c .before .before .before .before .before .before .run-length .result .count ≤ length (s .args .«record» .now) = omega (arith, c .before .before .before .if1 .taken) in fits) (reply-room (replyTable (s .args .n .replies) (s .args .firsts .now) (s .args .lasts .now) (s .args .replylives .now)) _ (sym (c .before .before .room .ensures) ∙ c .before .if2 .left))) refl
 
 returns-4 : tie.Need-returns-4
 unfolding linkState

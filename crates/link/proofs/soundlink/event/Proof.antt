@@ -1,27 +1,52 @@
-use borrow.Author.Needs.{needs}
 use Rattle.link.proofs.soundlink.event.Statement.{statement}
 use Rattle.link.proofs.soundlink.event.Tie as tie
-use mathlib.Core.Path.{_∙_, ap}
-use Rattle.limits.specs.Events.{event}
-use Rattle.link.specs.View.{soundLink}
-use Rattle.link.proofs.Laws.Apart.{apart, moves-joined}
+use mathlib.Core.Path.{refl, ap}
+use native.Mathlib.Omega.{arith}
+use lib.ListN.{replicate}
+use borrow.Author.Needs.{needs}
+use Rattle.limits.specs.Answer.{numberOf}
+use Rattle.limits.proofs.Laws.Promise.{not-done}
+use Rattle.link.proofs.Laws.Single.{single-done, single-refused}
 
-numbers-of-requires : tie.Need-numbers-of-requires
-numbers-of-requires c κs = search needs
+slice-aggregate-run : tie.Need-slice-aggregate-run
+slice-aggregate-run c = search needs
 
-event-requires : tie.Need-event-requires
-event-requires c κs = ap soundLink (apart _ _ (c .before .before .before .before .before .before .before .before .before .before .before .before .before .before .before .before .before .before .before .before .before .before .before .before .before .numbers-of .ensures)) ∙ c .before .before .before .before .before .before .before .before .before .before .before .before .before .before .before .before .before .before .before .before .before .before .before .before .before .before .before .before .before .pre
+slice-aggregate-run-2 : tie.Need-slice-aggregate-run-2
+slice-aggregate-run-2 c = search needs
 
-joined-requires : tie.Need-joined-requires
-joined-requires c κs = search needs
+run-requires : tie.Need-run-requires
+run-requires c κs = (c .before .before .before .before .before .pre, refl, omega arith)
+
+enum-told : tie.Need-enum-told
+enum-told c = search needs
+
+stays-requires : tie.Need-stays-requires
+stays-requires c κs = search needs
 
 same-length : tie.Need-same-length
 same-length c = search needs
 
 returns : tie.Need-returns
-returns c = let s = c .before .before .before .before .before .before .before .before .before .before .before .before .before .before .before .before .before .before .before .before .before .before .before .before .before .before .before .before .before .before .before .before .before .before .before in
-    moves-joined _ _ _ _ _ (apart _ _ (c .before .before .before .before .before .before .before .before .before .before .before .before .before .before .before .before .before .before .before .before .before .before .before .before .before .before .before .before .before .before .before .numbers-of .ensures)) (c .joined .ensures) (s .args .supply .now) (s .args .«record» .now) _ (event (s .args .kind) (s .args .argument)) _ (c .before .before .before .before .before .event .ensures (ap soundLink (apart _ _ (c .before .before .before .before .before .before .before .before .before .before .before .before .before .before .before .before .before .before .before .before .before .before .before .before .before .before .before .before .before .before .before .numbers-of .ensures)) ∙ c .before .before .before .before .before .before .before .before .before .before .before .before .before .before .before .before .before .before .before .before .before .before .before .before .before .before .before .before .before .before .before .before .before .before .before .pre))
+returns c = let s = c .before .before .before .before .before .before .before .before .before .before .before in let u = c .before .before .before .before .before .run in
+    single-refused _ (s .args .kind) (s .args .argument) (s .args .supply .now) (s .args .«record» .now) _ (replicate 1 0) _ (u .result) (u .ensures .1) (u .ensures .2) _ _ refl (not-done (u .result .answer) (c .before .match .keys2)) (c .stays .ensures)
+
+same-length-2 : tie.Need-same-length-2
+same-length-2 c = search needs
+
+returns-2 : tie.Need-returns-2
+returns-2 c = let s = c .before .before .before .before .before .before .before .before .before .before .before in let u = c .before .before .before .before .before .run in
+    single-done _ (s .args .kind) (s .args .argument) (s .args .supply .now) (s .args .«record» .now) _ (replicate 1 0) _ (u .result) (u .ensures .1) (u .ensures .2) (ap numberOf (c .enum-told .given .1)) (u .ensures .0)
 
 pub event-spec : {M : Type 1} → statement M
 event-spec =
-    tie.close (tie.spec numbers-of-requires event-requires joined-requires same-length returns)
+    tie.close
+    (tie.spec
+    slice-aggregate-run
+    slice-aggregate-run-2
+    run-requires
+    enum-told
+    stays-requires
+    same-length
+    returns
+    same-length-2
+    returns-2)

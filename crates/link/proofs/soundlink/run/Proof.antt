@@ -3,7 +3,7 @@ use Rattle.link.proofs.soundlink.run.Statement.{statement}
 use Rattle.link.proofs.soundlink.run.Tie as tie
 use mathlib.Core.Path.{_∙_, ap}
 use Rattle.link.specs.View.{soundLink}
-use Rattle.link.proofs.Laws.Apart.{apart, run-joined}
+use Rattle.link.proofs.Laws.Apart.{apart, joined-run}
 
 numbers-of-requires : tie.Need-numbers-of-requires
 numbers-of-requires c κs = search needs
@@ -21,8 +21,8 @@ same-length-2 : tie.Need-same-length-2
 same-length-2 c = search needs
 
 returns : tie.Need-returns
-returns c = let s = c .before .before .before .before .before .before .before .before .before .before .before .before .before .before .before .before .before .before .before .before .before .before .before .before .before .before .before .before .before .before .before .before .before .before .before .before .before .before .before .before in
-    run-joined _ _ _ _ _ (apart _ _ (c .before .before .before .before .before .before .before .before .before .before .before .before .before .before .before .before .before .before .before .before .before .before .before .before .before .before .before .before .before .before .before .before .before .before .numbers-of .ensures)) (c .joined .ensures) (s .args .events .now) (s .args .supply .now) (s .args .«record» .now) _ (s .args .answers .now) _ _ (c .before .before .before .before .before .before .before .run .ensures)
+returns c = let s = c .before .before .before .before .before .before .before .before .before .before .before .before .before .before .before .before .before .before .before .before .before .before .before .before .before .before .before .before .before .before .before .before .before .before .before .before .before .before .before .before in let e = c .before .before .before .before .before .before .before .run .ensures in
+    let j = joined-run _ _ _ _ (c .before .before .before .before .before .before .before .run .result .answer) _ (s .args .events .now) (s .args .supply .now) (s .args .«record» .now) _ (s .args .answers .now) _ (apart _ _ (c .before .before .before .before .before .before .before .before .before .before .before .before .before .before .before .before .before .before .before .before .before .before .before .before .before .before .before .before .before .before .before .before .before .before .numbers-of .ensures)) (c .joined .ensures) (e .0) (e .1) in (j .0, j .1, e .2)
 
 pub run-spec : {M : Type 1} → statement M
 run-spec =

@@ -10,8 +10,8 @@ use native.Mathlib.Omega.{arith}
 slot-requires : tie.Need-slot-requires
 slot-requires c κs = omega (arith, good _ (c .pre .0), c .pre .1)
 
-set-timer-requires : tie.Need-set-timer-requires
-set-timer-requires c κs = let s = c .before .before in let g = good _ (s .pre .0) in omega (arith, g, c .set-timer-arg .given .0 .1, c .before .slot .ensures, place-below _ (s .args .number) (g .window-low))
+set-requires : tie.Need-set-requires
+set-requires c κs = let s = c .before .before in let g = good _ (s .pre .0) in omega (arith, g, c .set-arg .given .0 .1, c .before .slot .ensures, place-below _ (s .args .number) (g .window-low))
 
 load-requires : tie.Need-load-requires
 load-requires c κs = let s = c .before .before .before in let g = good _ (s .pre .0) in omega (arith, g, c .before .before .slot .ensures, place-below _ (s .args .number) (g .window-low))
@@ -20,11 +20,11 @@ returns : tie.Need-returns
 returns c = λ oldest next marks k s h q. let b = c .before .before .before .before in
     let m = matOf oldest next marks (b .args .timers .now) (b .args .cells .now) in
     let f = facts _ m (b .pre .0) s in
-    let t = c .before .before .set-timer-arg .given .0 .1 in
+    let t = c .before .before .set-arg .given .0 .1 in
     let p = c .before .before .before .slot .ensures in (
-      timed-sound _ m _ _ _ f h t q p _ _ (c .before .set-timer .ensures) (c .load .ensures),
-      timed-shown _ m _ _ _ f h t q p _ _ (c .before .set-timer .ensures) (c .load .ensures),
+      timed-sound _ m _ _ _ f h t q p _ _ (c .before .set .ensures) (c .load .ensures),
+      timed-shown _ m _ _ _ f h t q p _ _ (c .before .set .ensures) (c .load .ensures),
     )
 
 pub again-spec : {M : Type 1} → statement M
-again-spec = tie.close (tie.spec slot-requires set-timer-requires load-requires returns)
+again-spec = tie.close (tie.spec slot-requires set-requires load-requires returns)

@@ -13,8 +13,8 @@ use borrow.Author.Needs.{needs}
 slot-requires : tie.Need-slot-requires
 slot-requires c κs = omega (arith, good _ (c .pre .0), c .pre .1)
 
-set-timer-requires : tie.Need-set-timer-requires
-set-timer-requires c κs = let s = c .before .before in let g = good _ (s .pre .0) in omega (arith, g, c .set-timer-arg .given .0 .1, c .before .slot .ensures, place-below _ (s .args .next) (g .window-low))
+set-requires : tie.Need-set-requires
+set-requires c κs = let s = c .before .before in let g = good _ (s .pre .0) in omega (arith, g, c .set-arg .given .0 .1, c .before .slot .ensures, place-below _ (s .args .next) (g .window-low))
 
 mul-write : tie.Need-mul-write
 mul-write c = let s = c .before .before .before .before in let g = good _ (s .pre .0) in omega (arith, g, c .before .before .before .slot .ensures, place-below _ (s .args .next) (g .window-low))
@@ -33,12 +33,12 @@ returns : tie.Need-returns
 returns c = λ oldest marks s fits legal. let b = c .before .before .before .before .before .before in
     let m = matOf oldest (b .args .next) marks (b .args .timers .now) (b .args .cells .now) in
     let f = facts _ m (b .pre .0) s in
-    let t = c .before .before .before .before .set-timer-arg .given .0 .1 in
+    let t = c .before .before .before .before .set-arg .given .0 .1 in
     let k = c .before .before .write-arg .given .0 .1 in
     let r : length (b .args .row) ≡ 16 = search needs in
     let a = c .before .before .before .before .before .slot .ensures in (
-      kept-sound _ m _ f fits t k r _ _ _ _ a (c .forward .ensures) (c .before .before .before .set-timer .ensures) (c .before .write .ensures) legal,
-      kept-shown _ m _ f fits t k r _ _ _ _ a (c .forward .ensures) (c .before .before .before .set-timer .ensures) (c .before .write .ensures),
+      kept-sound _ m _ f fits t k r _ _ _ _ a (c .forward .ensures) (c .before .before .before .set .ensures) (c .before .write .ensures) legal,
+      kept-shown _ m _ f fits t k r _ _ _ _ a (c .forward .ensures) (c .before .before .before .set .ensures) (c .before .write .ensures),
     )
 
 pub keep-spec : {M : Type 1} → statement M
@@ -46,7 +46,7 @@ keep-spec =
     tie.close
     (tie.spec
     slot-requires
-    set-timer-requires
+    set-requires
     mul-write
     write-requires
     mul-forward

@@ -1,0 +1,60 @@
+-- A run of one event is that event.
+use Prim.Native.Nat.{ℕ, _≤_}
+use mathlib.Core.Path.{_≡_, refl, sym, _∙_, ap}
+use mathlib.Core.Bool.{true, false}
+use mathlib.Core.List.{List, [], _∷_}
+use native.Mathlib.Omega.{arith}
+use native.Mathlib.Nat.{zero-add}
+use lib.Dec.{eqb}
+use lib.ListN.{getD}
+use borrow.Author.Tests.{eq-eqb}
+use Rattle.limits.specs.declared.answer.Answer.{Answer}
+use Rattle.limits.specs.Answer.{numberOf}
+use Rattle.limits.specs.Events.{Event, event}
+use Rattle.limits.proofs.Laws.Choice.{pick-yes, pick-no}
+use Rattle.limits.proofs.Laws.Promise.{called-done}
+use Rattle.link.specs.declared.Link.{Link}
+use Rattle.link.specs.declared.Progress.{Progress}
+use Rattle.link.specs.State.{LinkState, Moved, unmoved}
+use Rattle.link.specs.Rules.{answer, stepped}
+use Rattle.link.specs.Runs.{continued, next, afterAll, answers}
+use Rattle.link.specs.View.{linkState, soundLink, shown, Moves, Run, running}
+use Rattle.link.proofs.Laws.Stays.{Stayed, stays-refused}
+
+next-first : (supply before : List ℕ) (s : LinkState) (e : Event) → next supply (unmoved s before) e ≡ stepped supply before s e
+unfolding next continued
+next-first supply before s e =
+    let y = stepped supply before s e in
+    λ i. record {
+      state = y .state;
+      counts = record { sent = zero-add (y .counts .sent) i; acknowledged = zero-add (y .counts .acknowledged) i; recorded = zero-add (y .counts .recorded) i };
+      buffer = y .buffer;
+    }
+
+module _ (k : Link) (kind argument : ℕ) (supply before after ans₀ ans : List ℕ) (r : Progress)
+    (ran : record { moved = shown r after; answers = ans } ≡ running k (kind ∷ argument ∷ []) supply before ans₀)
+    (last : 1 ≤ 1 → numberOf (r .answer) ≡ getD ans 0 0) where
+  abbrev here : Event
+  here = event kind argument
+
+  number-is : numberOf (r .answer) ≡ answer supply before (linkState k) here
+  unfolding answers
+  number-is = last (omega arith) ∙ ap (λ (x : Run). getD (x .answers) 0 0) ran
+
+  shown-is : shown r after ≡ stepped supply before (linkState k) here
+  unfolding afterAll
+  shown-is = ap (λ (x : Run). x .moved) ran ∙ next-first supply before (linkState k) here
+
+  pub single-done : numberOf (r .answer) ≡ 0 → soundLink (r .link) ≡ true → Moves k supply before after here r
+  unfolding stepped
+  single-done z h = called-done _ _ _ _ _ number-is _ _ _ z (shown-is ∙ pick-yes _ _ _ _ (eq-eqb _ _ (sym number-is ∙ z)) refl) h
+
+  pub single-refused : (a : Answer) (r' : Progress) → r .answer ≡ a → eqb (numberOf a) 0 ≡ false → Stayed k a r' → Moves k supply before after here r'
+  unfolding stepped
+  single-refused a r' e z s = rw same (stays-refused _ k r' a before _ s number z)
+    where
+      number : numberOf a ≡ answer supply before (linkState k) here
+      number = sym (ap numberOf e) ∙ number-is
+
+      same : after ≡ before
+      same = ap (λ (x : Moved). x .buffer) (shown-is ∙ pick-no _ _ _ _ (ap (λ n. eqb n 0) (sym number) ∙ z) refl)
