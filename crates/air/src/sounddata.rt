@@ -24,7 +24,7 @@ pub fn message_sound(l: Limits, m: DataMessage) -> bool
     ensures { λ r. ⌜ r ≡ soundDataMessage l (dataMessage m) ⌝ }
 {
     let row = m.row;
-    limits::within(1, l.datalife, m.life) && (m.number < 2 * l.window && rows::legal_row(row))
+    limits::within(1, l.datalife, m.life) && rows::messages::data_sound(l, m.number, row)
 }
 
 pub fn table_sound(l: Limits, t: DataTable) -> bool

@@ -20,9 +20,7 @@ pub fn message_sound(l: Limits, m: ReplyMessage) -> bool
     requires { ⌜ soundLimits l ≡ true ⌝ }
     ensures { λ r. ⌜ r ≡ soundReplyMessage l (replyMessage m) ⌝ }
 {
-    let n = 2 * l.window;
-    limits::within(1, l.replylife, m.life)
-        && (m.first < n && (m.last < n && limits::ring::gap(n, m.first, m.last) + 1 <= l.window))
+    limits::within(1, l.replylife, m.life) && rows::messages::reply_sound(l, m.first, m.last)
 }
 
 pub fn table_sound(l: Limits, t: ReplyTable) -> bool

@@ -30,7 +30,7 @@ pub struct Numbers {
     pub replies: usize,
 }
 
-// What an event gives beside the lent arrays.
+// What an event or a run gives beside the lent arrays.
 pub struct Step {
     pub answer: Answer,
     pub numbers: Numbers,
@@ -65,8 +65,14 @@ fn lose_data(
         × (soundDataTable l (dataTable (n .datas) (now numbers) (now datalives) (now datacells)) ≡ true) ⌝ }
     ensures { λ r. ⌜ ((marks held : List Bool) (mattimers matcells padtimers padcells firsts lasts replylives supply b : List ℕ)
         → LentMoves l n
-        (arrays marks mattimers matcells held padtimers padcells (now (numbers .entry)) (now (datalives .entry)) (now (datacells .entry)) firsts lasts replylives)
-        (arrays marks mattimers matcells held padtimers padcells (now (numbers .exit)) (now (datalives .exit)) (now (datacells .exit)) firsts lasts replylives)
+        (arrays marks mattimers matcells
+        held padtimers padcells
+        (now (numbers .entry)) (now (datalives .entry)) (now (datacells .entry))
+        firsts lasts replylives)
+        (arrays marks mattimers matcells
+        held padtimers padcells
+        (now (numbers .exit)) (now (datalives .exit)) (now (datacells .exit))
+        firsts lasts replylives)
         supply b b (loseData p) r) ⌝ }
 {
     let left = sounddata::remove(l, n.datas, numbers, datalives, datacells, p);
@@ -94,8 +100,14 @@ fn lose_reply(
         × (soundReplyTable l (replyTable (n .replies) (now firsts) (now lasts) (now replylives)) ≡ true) ⌝ }
     ensures { λ r. ⌜ ((marks held : List Bool) (mattimers matcells padtimers padcells numbers datalives datacells supply b : List ℕ)
         → LentMoves l n
-        (arrays marks mattimers matcells held padtimers padcells numbers datalives datacells (now (firsts .entry)) (now (lasts .entry)) (now (replylives .entry)))
-        (arrays marks mattimers matcells held padtimers padcells numbers datalives datacells (now (firsts .exit)) (now (lasts .exit)) (now (replylives .exit)))
+        (arrays marks mattimers matcells
+        held padtimers padcells
+        numbers datalives datacells
+        (now (firsts .entry)) (now (lasts .entry)) (now (replylives .entry)))
+        (arrays marks mattimers matcells
+        held padtimers padcells
+        numbers datalives datacells
+        (now (firsts .exit)) (now (lasts .exit)) (now (replylives .exit)))
         supply b b (loseReply p) r) ⌝ }
 {
     let left = soundreplies::remove(l, n.replies, firsts, lasts, replylives, p);
@@ -129,8 +141,14 @@ fn tick(
         × (soundReplyTable l (replyTable (n .replies) (now firsts) (now lasts) (now replylives)) ≡ true) ⌝ }
     ensures { λ r. ⌜ ((marks held : List Bool) (matcells padcells supply b : List ℕ)
         → LentMoves l n
-        (arrays marks (now (mattimers .entry)) matcells held (now (padtimers .entry)) padcells (now (numbers .entry)) (now (datalives .entry)) (now (datacells .entry)) (now (firsts .entry)) (now (lasts .entry)) (now (replylives .entry)))
-        (arrays marks (now (mattimers .exit)) matcells held (now (padtimers .exit)) padcells (now (numbers .exit)) (now (datalives .exit)) (now (datacells .exit)) (now (firsts .exit)) (now (lasts .exit)) (now (replylives .exit)))
+        (arrays marks (now (mattimers .entry)) matcells
+        held (now (padtimers .entry)) padcells
+        (now (numbers .entry)) (now (datalives .entry)) (now (datacells .entry))
+        (now (firsts .entry)) (now (lasts .entry)) (now (replylives .entry)))
+        (arrays marks (now (mattimers .exit)) matcells
+        held (now (padtimers .exit)) padcells
+        (now (numbers .exit)) (now (datalives .exit)) (now (datacells .exit))
+        (now (firsts .exit)) (now (lasts .exit)) (now (replylives .exit)))
         supply b b (tick d) r) ⌝ }
 {
     soundmat::tick(l, mattimers, d);
@@ -168,10 +186,19 @@ pub fn event(
     supply: &[u16],
     record: &mut [u16],
 ) -> Step
-    requires { ⌜ soundLink (linkOf l n (arrays (now marks) (now mattimers) (now matcells) (now held) (now padtimers) (now padcells) (now numbers) (now datalives) (now datacells) (now firsts) (now lasts) (now replylives))) ≡ true ⌝ }
+    requires { ⌜ soundLink (linkOf l n (arrays (now marks) (now mattimers) (now matcells)
+        (now held) (now padtimers) (now padcells)
+        (now numbers) (now datalives) (now datacells)
+        (now firsts) (now lasts) (now replylives))) ≡ true ⌝ }
     ensures { λ r. ⌜ LentMoves l n
-        (arrays (now (marks .entry)) (now (mattimers .entry)) (now (matcells .entry)) (now (held .entry)) (now (padtimers .entry)) (now (padcells .entry)) (now (numbers .entry)) (now (datalives .entry)) (now (datacells .entry)) (now (firsts .entry)) (now (lasts .entry)) (now (replylives .entry)))
-        (arrays (now (marks .exit)) (now (mattimers .exit)) (now (matcells .exit)) (now (held .exit)) (now (padtimers .exit)) (now (padcells .exit)) (now (numbers .exit)) (now (datalives .exit)) (now (datacells .exit)) (now (firsts .exit)) (now (lasts .exit)) (now (replylives .exit)))
+        (arrays (now (marks .entry)) (now (mattimers .entry)) (now (matcells .entry))
+        (now (held .entry)) (now (padtimers .entry)) (now (padcells .entry))
+        (now (numbers .entry)) (now (datalives .entry)) (now (datacells .entry))
+        (now (firsts .entry)) (now (lasts .entry)) (now (replylives .entry)))
+        (arrays (now (marks .exit)) (now (mattimers .exit)) (now (matcells .exit))
+        (now (held .exit)) (now (padtimers .exit)) (now (padcells .exit))
+        (now (numbers .exit)) (now (datalives .exit)) (now (datacells .exit))
+        (now (firsts .exit)) (now (lasts .exit)) (now (replylives .exit)))
         (now (supply .entry)) (now («record» .entry)) (now («record» .exit)) (event kind argument) r ⌝ }
 {
     let p = argument as usize;

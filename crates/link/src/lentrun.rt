@@ -46,10 +46,19 @@ pub fn run(
     record: &mut [u16],
     answers: &mut [u8],
 ) -> Step
-    requires { ⌜ (soundLink (linkOf l n (arrays (now marks) (now mattimers) (now matcells) (now held) (now padtimers) (now padcells) (now numbers) (now datalives) (now datacells) (now firsts) (now lasts) (now replylives))) ≡ true)
+    requires { ⌜ (soundLink (linkOf l n (arrays (now marks) (now mattimers) (now matcells)
+        (now held) (now padtimers) (now padcells)
+        (now numbers) (now datalives) (now datacells)
+        (now firsts) (now lasts) (now replylives))) ≡ true)
         × (length (now events) % 2 ≡ 0) × (length (now events) / 2 ≤ length (now answers)) ⌝ }
-    ensures { λ r. ⌜ (let k = linkOf l n (arrays (now (marks .entry)) (now (mattimers .entry)) (now (matcells .entry)) (now (held .entry)) (now (padtimers .entry)) (now (padcells .entry)) (now (numbers .entry)) (now (datalives .entry)) (now (datacells .entry)) (now (firsts .entry)) (now (lasts .entry)) (now (replylives .entry))) in
-        let p = progressOf l (arrays (now (marks .exit)) (now (mattimers .exit)) (now (matcells .exit)) (now (held .exit)) (now (padtimers .exit)) (now (padcells .exit)) (now (numbers .exit)) (now (datalives .exit)) (now (datacells .exit)) (now (firsts .exit)) (now (lasts .exit)) (now (replylives .exit))) r in
+    ensures { λ r. ⌜ (let k = linkOf l n (arrays (now (marks .entry)) (now (mattimers .entry)) (now (matcells .entry))
+        (now (held .entry)) (now (padtimers .entry)) (now (padcells .entry))
+        (now (numbers .entry)) (now (datalives .entry)) (now (datacells .entry))
+        (now (firsts .entry)) (now (lasts .entry)) (now (replylives .entry))) in
+        let p = progressOf l (arrays (now (marks .exit)) (now (mattimers .exit)) (now (matcells .exit))
+        (now (held .exit)) (now (padtimers .exit)) (now (padcells .exit))
+        (now (numbers .exit)) (now (datalives .exit)) (now (datacells .exit))
+        (now (firsts .exit)) (now (lasts .exit)) (now (replylives .exit))) r in
         (soundLink (p .link) ≡ true)
         × (record { moved = shown p (now («record» .exit)); answers = now (answers .exit) }
         ≡ running k (now (events .entry)) (now (supply .entry)) (now («record» .entry)) (now (answers .entry)))

@@ -37,8 +37,14 @@ pub fn send(
         × (soundDataTable l (dataTable (n .datas) (now numbers) (now datalives) (now datacells)) ≡ true) ⌝ }
     ensures { λ r. ⌜ ((marks held : List Bool) (padtimers padcells firsts lasts replylives b : List ℕ)
         → LentMoves l n
-        (arrays marks (now (mattimers .entry)) (now (matcells .entry)) held padtimers padcells (now (numbers .entry)) (now (datalives .entry)) (now (datacells .entry)) firsts lasts replylives)
-        (arrays marks (now (mattimers .exit)) (now (matcells .exit)) held padtimers padcells (now (numbers .exit)) (now (datalives .exit)) (now (datacells .exit)) firsts lasts replylives)
+        (arrays marks (now (mattimers .entry)) (now (matcells .entry))
+        held padtimers padcells
+        (now (numbers .entry)) (now (datalives .entry)) (now (datacells .entry))
+        firsts lasts replylives)
+        (arrays marks (now (mattimers .exit)) (now (matcells .exit))
+        held padtimers padcells
+        (now (numbers .exit)) (now (datalives .exit)) (now (datacells .exit))
+        firsts lasts replylives)
         (now (supply .entry)) b b send r) ⌝ }
 {
     let found = soundmat::next_row(l, n.oldest, n.next, supply);
@@ -91,8 +97,14 @@ pub fn resend(
         × (soundDataTable l (dataTable (n .datas) (now numbers) (now datalives) (now datacells)) ≡ true) ⌝ }
     ensures { λ r. ⌜ ((held : List Bool) (padtimers padcells firsts lasts replylives supply b : List ℕ)
         → LentMoves l n
-        (arrays (now (marks .entry)) (now (mattimers .entry)) (now (matcells .entry)) held padtimers padcells (now (numbers .entry)) (now (datalives .entry)) (now (datacells .entry)) firsts lasts replylives)
-        (arrays (now (marks .entry)) (now (mattimers .exit)) (now (matcells .entry)) held padtimers padcells (now (numbers .exit)) (now (datalives .exit)) (now (datacells .exit)) firsts lasts replylives)
+        (arrays (now (marks .entry)) (now (mattimers .entry)) (now (matcells .entry))
+        held padtimers padcells
+        (now (numbers .entry)) (now (datalives .entry)) (now (datacells .entry))
+        firsts lasts replylives)
+        (arrays (now (marks .entry)) (now (mattimers .exit)) (now (matcells .entry))
+        held padtimers padcells
+        (now (numbers .exit)) (now (datalives .exit)) (now (datacells .exit))
+        firsts lasts replylives)
         supply b b (resend k) r) ⌝ }
 {
     let found = soundmat::due(l, n.oldest, n.next, marks, mattimers, k);
@@ -137,8 +149,14 @@ pub fn arrive_reply(
         × (soundReplyTable l (replyTable (n .replies) (now firsts) (now lasts) (now replylives)) ≡ true) ⌝ }
     ensures { λ r. ⌜ ((held : List Bool) (mattimers matcells padtimers padcells numbers datalives datacells supply b : List ℕ)
         → LentMoves l n
-        (arrays (now (marks .entry)) mattimers matcells held padtimers padcells numbers datalives datacells (now (firsts .entry)) (now (lasts .entry)) (now (replylives .entry)))
-        (arrays (now (marks .exit)) mattimers matcells held padtimers padcells numbers datalives datacells (now (firsts .exit)) (now (lasts .exit)) (now (replylives .exit)))
+        (arrays (now (marks .entry)) mattimers matcells
+        held padtimers padcells
+        numbers datalives datacells
+        (now (firsts .entry)) (now (lasts .entry)) (now (replylives .entry)))
+        (arrays (now (marks .exit)) mattimers matcells
+        held padtimers padcells
+        numbers datalives datacells
+        (now (firsts .exit)) (now (lasts .exit)) (now (replylives .exit)))
         supply b b (arriveReply p) r) ⌝ }
 {
     let found = soundreplies::read(l, n.replies, firsts, lasts, replylives, p);

@@ -38,8 +38,14 @@ fn take_old(
         × (soundReplyTable l (replyTable (n .replies) (now firsts) (now lasts) (now replylives)) ≡ true) ⌝ }
     ensures { λ r. ⌜ ((marks held : List Bool) (mattimers matcells padtimers padcells b : List ℕ)
         → OldTaken l n
-        (arrays marks mattimers matcells held padtimers padcells (now (numbers .entry)) (now (datalives .entry)) (now (datacells .entry)) (now (firsts .entry)) (now (lasts .entry)) (now (replylives .entry)))
-        (arrays marks mattimers matcells held padtimers padcells (now (numbers .exit)) (now (datalives .exit)) (now (datacells .exit)) (now (firsts .exit)) (now (lasts .exit)) (now (replylives .exit)))
+        (arrays marks mattimers matcells
+        held padtimers padcells
+        (now (numbers .entry)) (now (datalives .entry)) (now (datacells .entry))
+        (now (firsts .entry)) (now (lasts .entry)) (now (replylives .entry)))
+        (arrays marks mattimers matcells
+        held padtimers padcells
+        (now (numbers .exit)) (now (datalives .exit)) (now (datacells .exit))
+        (now (firsts .exit)) (now (lasts .exit)) (now (replylives .exit)))
         b p (record { first = number; last = number }) r) ⌝ }
 {
     let message = ReplyMessage {
@@ -83,8 +89,14 @@ pub fn arrive_data(
         × (soundReplyTable l (replyTable (n .replies) (now firsts) (now lasts) (now replylives)) ≡ true) ⌝ }
     ensures { λ r. ⌜ ((marks : List Bool) (mattimers matcells supply b : List ℕ)
         → LentMoves l n
-        (arrays marks mattimers matcells (now (held .entry)) (now (padtimers .entry)) (now (padcells .entry)) (now (numbers .entry)) (now (datalives .entry)) (now (datacells .entry)) (now (firsts .entry)) (now (lasts .entry)) (now (replylives .entry)))
-        (arrays marks mattimers matcells (now (held .exit)) (now (padtimers .exit)) (now (padcells .exit)) (now (numbers .exit)) (now (datalives .exit)) (now (datacells .exit)) (now (firsts .exit)) (now (lasts .exit)) (now (replylives .exit)))
+        (arrays marks mattimers matcells
+        (now (held .entry)) (now (padtimers .entry)) (now (padcells .entry))
+        (now (numbers .entry)) (now (datalives .entry)) (now (datacells .entry))
+        (now (firsts .entry)) (now (lasts .entry)) (now (replylives .entry)))
+        (arrays marks mattimers matcells
+        (now (held .exit)) (now (padtimers .exit)) (now (padcells .exit))
+        (now (numbers .exit)) (now (datalives .exit)) (now (datacells .exit))
+        (now (firsts .exit)) (now (lasts .exit)) (now (replylives .exit)))
         supply b b (arriveData p) r) ⌝ }
 {
     let found = sounddata::read(l, n.datas, numbers, datalives, datacells, p);
@@ -138,8 +150,14 @@ pub fn reply(
         × (soundReplyTable l (replyTable (n .replies) (now firsts) (now lasts) (now replylives)) ≡ true) ⌝ }
     ensures { λ r. ⌜ ((marks : List Bool) (mattimers matcells numbers datalives datacells : List ℕ)
         → LentMoves l n
-        (arrays marks mattimers matcells (now (held .entry)) (now (padtimers .entry)) (now (padcells .entry)) numbers datalives datacells (now (firsts .entry)) (now (lasts .entry)) (now (replylives .entry)))
-        (arrays marks mattimers matcells (now (held .exit)) (now (padtimers .entry)) (now (padcells .entry)) numbers datalives datacells (now (firsts .exit)) (now (lasts .exit)) (now (replylives .exit)))
+        (arrays marks mattimers matcells
+        (now (held .entry)) (now (padtimers .entry)) (now (padcells .entry))
+        numbers datalives datacells
+        (now (firsts .entry)) (now (lasts .entry)) (now (replylives .entry)))
+        (arrays marks mattimers matcells
+        (now (held .exit)) (now (padtimers .entry)) (now (padcells .entry))
+        numbers datalives datacells
+        (now (firsts .exit)) (now (lasts .exit)) (now (replylives .exit)))
         [] (now («record» .entry)) (now («record» .exit)) reply r) ⌝ }
 {
     let run = soundpad::run_length(l, n.wanted, held, padtimers);

@@ -88,7 +88,10 @@ fn joined(
     lasts: [u16; 32],
     replylives: [u16; 32],
 ) -> Link
-    ensures { λ r. ⌜ r ≡ linkOf l n (arrays marks mattimers matcells held padtimers padcells numbers datalives datacells firsts lasts replylives) ⌝ }
+    ensures { λ r. ⌜ r ≡ linkOf l n (arrays marks mattimers matcells
+        held padtimers padcells
+        numbers datalives datacells
+        firsts lasts replylives) ⌝ }
 {
     Link {
         limits: l,
@@ -194,7 +197,8 @@ pub fn run(
     }
 }
 
-// An event of two bytes: 8, 9, then the questions of its kind. It is a run of one event.
+// An event of two bytes: 8, 9, then the questions of its kind. It is a run of one event: `lentlink::event` is then called from one
+// place, and the compiler puts it into the loop.
 pub fn event(k: Link, kind: u8, argument: u8, supply: &[u16], record: &mut [u16]) -> Progress
     requires { ⌜ soundLink k ≡ true ⌝ }
     ensures { λ r. ⌜ Moves k (now (supply .entry)) (now («record» .entry)) (now («record» .exit)) (event kind argument) r ⌝ }

@@ -68,7 +68,7 @@ fn sound_with(l: Limits, m: Mat, first: usize, last: usize) -> bool
     ensures { λ r. ⌜ r ≡ (soundLimits l && (soundMat l m && soundReply l (record { first = first; last = last }))) ⌝ }
 {
     limits::sound_limits(l)
-        && (soundmat::mat_sound(l, m) && soundmat::message_sound(l, first, last))
+        && (soundmat::mat_sound(l, m) && rows::messages::reply_sound(l, first, last))
 }
 
 // The mat as it is, with a message of zeros.

@@ -102,14 +102,6 @@ pub fn mat_sound(l: Limits, m: Mat) -> bool
     numbers_sound(l.window, m) && (marks_sound(l.window, m) && rows_sound(l, m))
 }
 
-pub fn message_sound(l: Limits, first: usize, last: usize) -> bool
-    requires { ⌜ soundLimits l ≡ true ⌝ }
-    ensures { λ r. ⌜ r ≡ soundReply l (record { first = first; last = last }) ⌝ }
-{
-    let w = l.window;
-    first < 2 * w && (last < 2 * w && ring::gap(2 * w, first, last) + 1 <= w)
-}
-
 // What a send finds: the answer, and the row to send or zeros.
 pub struct NextRow {
     pub answer: Answer,

@@ -74,7 +74,7 @@ fn sound_with(l: Limits, p: Pad, number: usize, row: [u16; 16]) -> bool
     ensures { λ r. ⌜ r ≡ (soundLimits l && (soundPad l p && soundData l (record { number = number; row = row }))) ⌝ }
 {
     limits::sound_limits(l)
-        && (soundpad::pad_sound(l, p) && soundpad::message_sound(l, number, row))
+        && (soundpad::pad_sound(l, p) && rows::messages::data_sound(l, number, row))
 }
 
 // Data arrives at a pad that passed question 4.

@@ -11,7 +11,6 @@ ghost use Rattle.limits.specs.Cells.{rowAt, legalRow};
 ghost use Rattle.limits.specs.Questions.{pick, Answers};
 ghost use Rattle.limits.specs.Limits.{soundLimits};
 ghost use Rattle.limits.specs.Ring.{distance};
-ghost use Rattle.limits.specs.Tables.{soundData};
 ghost use Rattle.pad.specs.Rules.{holding, run, runQuestions, replying, ticked};
 ghost use Rattle.pad.specs.View.{padOf, slotAt, padState, soundSlot, soundPad};
 use crate::Pad;
@@ -57,13 +56,6 @@ pub fn pad_sound(l: Limits, p: Pad) -> bool
     let w = l.window;
     let timers = p.timers;
     p.wanted < 2 * w && (rows::at_most(&timers, w, l.replywait) && cells_sound(p, w))
-}
-
-pub fn message_sound(l: Limits, number: usize, row: [u16; 16]) -> bool
-    requires { ⌜ soundLimits l ≡ true ⌝ }
-    ensures { λ r. ⌜ r ≡ soundData l (record { number = number; row = row }) ⌝ }
-{
-    number < 2 * l.window && rows::legal_row(row)
 }
 
 // What recording a run gives: the number wanted then, and the last number of the run.

@@ -7,6 +7,8 @@ ghost use Rattle.limits.specs.Lists.{tab, all};
 ghost use Rattle.limits.specs.Cells.{rowAt, legalRow};
 ghost use Rattle.rows.specs.Arrays.{written, fallen, closed, spanSet};
 
+pub mod messages;
+
 // The 16 cells from `at` on.
 pub fn read(cells: &[u16], at: usize) -> [u16; 16]
     requires { ⌜ at + 16 ≤ length (now cells) ⌝ }

@@ -1,6 +1,4 @@
 -- Laws on the reply table: a message stored in its three arrays, and what each event leaves of the list.
-use Rattle.limits.specs.Ring.{distance}
-use Rattle.limits.proofs.Laws.Ring.{distance-below}
 use Prim.Native.Nat.{ℕ, _+_, _-_, _*_, _≤_, _<_}
 use mathlib.Core.Path.{_≡_, refl, sym, _∙_, ap}
 use mathlib.Core.Bool.{Bool, true}
@@ -34,9 +32,6 @@ message-path a a' b b' v v' p q r = λ i. record { body = record { first = p i; 
 pub same-test : (l : Limits) (b : Bool) (x x' y y' v : ℕ) → b ≡ soundReplyMessage l (message x y v) → x ≡ x' → y ≡ y'
     → soundReplyMessage l (message x' y' v) ≡ b
 same-test l b x x' y y' v e p q = sym (e ∙ ap (soundReplyMessage l) (message-path x x' y y' v v p q refl))
-
-pub gap-below : (gap n a b : ℕ) → gap ≡ distance n a b → a < n → b < n → gap < n
-gap-below gap n a b e h k = let d = distance-below n a b h k in omega arith
 
 pub reply-count : (l : Limits) (t : ReplyTable) → soundReplyTable l t ≡ true → t .count ≤ 32
 unfolding soundReplyTable replyMessages

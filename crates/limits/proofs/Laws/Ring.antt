@@ -22,6 +22,10 @@ pub distance-below : (n a b : ℕ) → a < n → b < n → distance n a b < n
 unfolding distance
 distance-below n a b h k = mod-lt (b + n - a) (omega arith)
 
+-- a distance that was computed, whichever way it was taken
+pub gap-below : (gap n a b : ℕ) → gap ≡ distance n a b → a < n → b < n → gap < n
+gap-below gap n a b e h k = let d = distance-below n a b h k in omega arith
+
 pub step-below : (n a k : ℕ) → a + k < n → step n a k ≡ a + k
 unfolding step
 step-below n a k h = mod-eq-of-lt h

@@ -10,11 +10,11 @@ sound-limits-requires c κs = search needs
 mat-sound-requires : tie.Need-mat-sound-requires
 mat-sound-requires c κs = sym (c .before .sound-limits .ensures) ∙ c .if1 .taken
 
-message-sound-requires : tie.Need-message-sound-requires
-message-sound-requires c κs = sym (c .before .before .before .sound-limits .ensures) ∙ c .before .before .if1 .taken
+reply-sound-requires : tie.Need-reply-sound-requires
+reply-sound-requires c κs = sym (c .before .before .before .sound-limits .ensures) ∙ c .before .before .if1 .taken
 
 returns : tie.Need-returns
-returns c = c .message-sound .ensures ∙ and-goes-on _ _ (sym (c .before .before .mat-sound .ensures) ∙ c .before .if2 .taken) ∙ and-goes-on _ _ (sym (c .before .before .before .before .sound-limits .ensures) ∙ c .before .before .before .if1 .taken)
+returns c = c .reply-sound .ensures ∙ and-goes-on _ _ (sym (c .before .before .mat-sound .ensures) ∙ c .before .if2 .taken) ∙ and-goes-on _ _ (sym (c .before .before .before .before .sound-limits .ensures) ∙ c .before .before .before .if1 .taken)
 
 returns-2 : tie.Need-returns-2
 returns-2 c = c .before .mat-sound .ensures ∙ and-stops _ _ (sym (c .before .mat-sound .ensures) ∙ c .if2 .left) ∙ and-goes-on _ _ (sym (c .before .before .before .sound-limits .ensures) ∙ c .before .before .if1 .taken)
@@ -28,7 +28,7 @@ sound-with-spec =
     (tie.spec
     sound-limits-requires
     mat-sound-requires
-    message-sound-requires
+    reply-sound-requires
     returns
     returns-2
     returns-3)

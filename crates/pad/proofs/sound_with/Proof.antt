@@ -10,11 +10,11 @@ sound-limits-requires c κs = search needs
 pad-sound-requires : tie.Need-pad-sound-requires
 pad-sound-requires c κs = sym (c .before .sound-limits .ensures) ∙ c .if1 .taken
 
-message-sound-requires : tie.Need-message-sound-requires
-message-sound-requires c κs = sym (c .before .before .before .sound-limits .ensures) ∙ c .before .before .if1 .taken
+data-sound-requires : tie.Need-data-sound-requires
+data-sound-requires c κs = sym (c .before .before .before .sound-limits .ensures) ∙ c .before .before .if1 .taken
 
 returns : tie.Need-returns
-returns c = c .message-sound .ensures
+returns c = c .data-sound .ensures
     ∙ and-goes-on _ _ (sym (c .before .before .pad-sound .ensures) ∙ c .before .if2 .taken)
     ∙ and-goes-on _ _ (sym (c .before .before .before .before .sound-limits .ensures) ∙ c .before .before .before .if1 .taken)
 
@@ -32,7 +32,7 @@ sound-with-spec =
     (tie.spec
     sound-limits-requires
     pad-sound-requires
-    message-sound-requires
+    data-sound-requires
     returns
     returns-2
     returns-3)

@@ -2,7 +2,7 @@ use Rattle.mat.proofs.soundmat.acknowledge.Statement.{statement}
 use Rattle.mat.proofs.soundmat.acknowledge.Tie as tie
 use Rattle.mat.specs.View.{matOf}
 use Rattle.mat.proofs.Laws.Calls.{span-yes, span-no, passing-span}
-use Rattle.limits.proofs.Laws.Ring.{distance-below}
+use Rattle.limits.proofs.Laws.Ring.{gap-below}
 use Rattle.limits.proofs.Laws.Messages.{reply-facts}
 use Rattle.limits.proofs.Laws.Promise.{called-done, called-refused}
 use Rattle.limits.proofs.Laws.Choice.{pick-yes, pick-no}
@@ -18,7 +18,7 @@ gap-requires : tie.Need-gap-requires
 gap-requires c κs = let r = reply-facts _ _ (c .pre .4) in omega (arith, r, good _ (c .pre .0))
 
 add-count : tie.Need-add-count
-add-count c = let r = reply-facts _ _ (c .before .pre .4) in omega (arith, r, good _ (c .before .pre .0), c .gap .ensures)
+add-count c = let r = reply-facts _ _ (c .before .pre .4) in let g = good _ (c .before .pre .0) in let h = gap-below _ _ _ _ (c .gap .ensures) (omega (arith, r)) (omega (arith, r)) in omega (arith, g, h)
 
 mul-gap-2 : tie.Need-mul-gap-2
 mul-gap-2 c = omega (arith, good _ (c .before .pre .0))
@@ -28,13 +28,13 @@ gap-requires-2 c κs = let r = reply-facts _ _ (c .before .pre .4) in omega (ari
 
 add-if1 : tie.Need-add-if1
 add-if1 c = let s = c .before .before in let r = reply-facts _ _ (s .pre .4) in
-    omega (arith, good _ (s .pre .0), r, c .gap2 .ensures, c .before .gap .ensures, distance-below _ _ _ (s .pre .1) (r .first))
+    let h = gap-below _ _ _ _ (c .before .gap .ensures) (omega (arith, r)) (omega (arith, r)) in let k = gap-below _ _ _ _ (c .gap2 .ensures) (omega (arith, r, s .pre .1)) (omega (arith, r, s .pre .1)) in omega (arith, good _ (s .pre .0), h, k)
 
 mul-gap-3 : tie.Need-mul-gap-3
 mul-gap-3 c = omega (arith, good _ (c .before .before .pre .0))
 
 gap-requires-3 : tie.Need-gap-requires-3
-gap-requires-3 c κs = let s = c .before .before in omega (arith, good _ (s .pre .0), s .pre .1, s .pre .2)
+gap-requires-3 c κs = let s = c .before .before in let r = reply-facts _ _ (s .pre .4) in omega (arith, r, good _ (s .pre .0), s .pre .1, s .pre .2)
 
 mark-off-requires : tie.Need-mark-off-requires
 mark-off-requires c κs = let s = c .before .before .before .before .before in let r = reply-facts _ _ (s .pre .4) in

@@ -1,6 +1,6 @@
 use mathlib.Core.Bool.{not}
 use Rattle.mat.proofs.Laws.Sound.{numbers, front-mark, other-marks}
-use Rattle.rows.proofs.Laws.Places.{place-below}
+use Rattle.rows.proofs.Laws.Places.{place-below, at-below}
 use Rattle.limits.proofs.Laws.Choice.{and-goes-on, and-no-left}
 use mathlib.Core.Path.{sym, _∙_, ap}
 use Prim.Native.Nat.{_-_}
@@ -28,7 +28,7 @@ sub-unmarked : tie.Need-sub-unmarked
 sub-unmarked c = let s = c .before .before .before .before .before .before .before in omega (arith, c .before .before .before .before .before .before .gap .ensures, numbers _ (s .args .t2) (s .pre .2))
 
 unmarked-requires : tie.Need-unmarked-requires
-unmarked-requires c κs = let s = c .before .before .before .before .before .before .before in omega (arith, c .slot2 .ensures, s .pre .1, place-below _ (s .args .t2 .next) (s .pre .0))
+unmarked-requires c κs = let s = c .before .before .before .before .before .before .before in omega (arith, s .pre .1, at-below _ _ _ (s .pre .0) (c .slot2 .ensures))
 
 returns : tie.Need-returns
 returns c = let s = c .before .before .before .before in

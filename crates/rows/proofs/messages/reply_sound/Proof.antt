@@ -1,4 +1,4 @@
-use Rattle.limits.proofs.Laws.Ring.{distance-below}
+use Rattle.limits.proofs.Laws.Ring.{gap-below}
 use Rattle.limits.proofs.Laws.Good.{good}
 use Rattle.limits.proofs.Laws.Choice.{and-goes-on, and-stops}
 use Rattle.limits.specs.Tables.{soundReply}
@@ -7,8 +7,8 @@ use lib.Dec.{leb}
 use mathlib.Core.Path.{_∙_, ap}
 use Prim.Native.Nat.{_+_}
 use native.Mathlib.Omega.{arith}
-use Rattle.mat.proofs.soundmat.message_sound.Statement.{statement}
-use Rattle.mat.proofs.soundmat.message_sound.Tie as tie
+use Rattle.rows.proofs.messages.reply_sound.Statement.{statement}
+use Rattle.rows.proofs.messages.reply_sound.Tie as tie
 
 mul-if1 : tie.Need-mul-if1
 mul-if1 c = omega (arith, good _ (c .pre))
@@ -23,7 +23,7 @@ gap-requires : tie.Need-gap-requires
 gap-requires c κs = omega (arith, good _ (c .before .before .pre))
 
 add-result : tie.Need-add-result
-add-result c = omega (arith, good _ (c .before .before .before .pre), c .gap .ensures, distance-below _ _ _ (c .before .before .if1 .taken) (c .before .if2 .taken))
+add-result c = let g = good _ (c .before .before .before .pre) in let h = gap-below _ _ _ _ (c .gap .ensures) (omega arith) (omega arith) in omega arith
 
 returns : tie.Need-returns
 unfolding soundReply
@@ -38,7 +38,7 @@ returns-3 : tie.Need-returns-3
 unfolding soundReply
 returns-3 c = and-stops _ _ (le-ltb _ _ (c .if1 .left))
 
-pub message-sound-spec : {M : Type 1} → statement M
-message-sound-spec =
+pub reply-sound-spec : {M : Type 1} → statement M
+reply-sound-spec =
     tie.close
     (tie.spec mul-if1 mul-if2 mul-gap gap-requires add-result returns returns-2 returns-3)

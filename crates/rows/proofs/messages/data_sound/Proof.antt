@@ -5,8 +5,8 @@ use Rattle.limits.proofs.Laws.Good.{good}
 use mathlib.Core.Path.{_∙_}
 use native.Mathlib.Omega.{arith}
 use borrow.Author.Needs.{needs}
-use Rattle.pad.proofs.soundpad.message_sound.Statement.{statement}
-use Rattle.pad.proofs.soundpad.message_sound.Tie as tie
+use Rattle.rows.proofs.messages.data_sound.Statement.{statement}
+use Rattle.rows.proofs.messages.data_sound.Tie as tie
 
 mul-if1 : tie.Need-mul-if1
 mul-if1 c = let g = good _ (c .before .pre) in omega arith
@@ -22,5 +22,5 @@ returns-2 : tie.Need-returns-2
 unfolding soundData
 returns-2 c = and-stops _ _ (le-ltb _ _ (c .if1 .left))
 
-pub message-sound-spec : {M : Type 1} → statement M
-message-sound-spec = tie.close (tie.spec mul-if1 legal-row-requires returns returns-2)
+pub data-sound-spec : {M : Type 1} → statement M
+data-sound-spec = tie.close (tie.spec mul-if1 legal-row-requires returns returns-2)
