@@ -5,7 +5,7 @@ use crate::compare::{different, Call, Case};
 use crate::differ::{difference, ride_difference, Pair};
 use crate::draw::{random_case, random_limits, sound_link};
 use crate::image::{image_of, IMAGE_LENGTH};
-use crate::library::{asked, Library};
+use crate::library::{asked, Lent, Library};
 use crate::limits::{Limits, CELLS};
 use crate::random::Random;
 use crate::short::{all_short, Compared, EVENTS};
@@ -156,7 +156,8 @@ pub fn short_buffers(library: &dyn Library) -> Outcome {
             let (mut image, mut counts, mut record) = (given.to_vec(), vec![5; counts_length], [5; CELLS]);
             let answer = library.step(&mut image, (8, 1), &[], &mut record, &mut counts);
             let (mut again, mut more, mut answers) = (given.to_vec(), vec![5; counts_length], [5]);
-            let ran = library.run(&mut again, &[8, 1], &[], &mut record, &mut answers, &mut more);
+            let lent = Lent { events: &[8, 1], supply: &[], record: &mut record, answers: &mut answers, counts: &mut more };
+            let ran = library.run(&mut again, lent);
             let kept = !short || (image == given && again == given && counts.iter().chain(&more).all(|count| *count == 5));
             let found = different((answer, ran), (expected, expected), || "answers".into())
                 .or_else(|| different((kept, record), (true, [5; CELLS]), || "buffers are kept".into()))
@@ -184,7 +185,8 @@ pub fn wide_numbers(library: &dyn Library) -> Outcome {
             let mut image = vec![5; IMAGE_LENGTH];
             let expected = if place < 3 { 2 } else { 3 };
             let opened = library.open(wide, &mut image);
-            let rode = library.ride(wide, &[], &[], &mut [], &mut [], &mut [0; 3]);
+            let lent = Lent { events: &[], supply: &[], record: &mut [], answers: &mut [], counts: &mut [0; 3] };
+            let rode = library.ride(wide, lent);
             let found = different((opened, rode), (expected, expected), || format!("times {:?}", wide.1))
                 .or_else(|| different(image, vec![5; IMAGE_LENGTH], || "image of a refused opening".into()));
             if let Some(text) = found {

@@ -3,7 +3,7 @@
 use crate::built::{Counts, Link};
 use crate::compare::{different, Call, Case};
 use crate::image::{image_of, link_of, without_free, IMAGE_LENGTH};
-use crate::library::{asked, words, Library};
+use crate::library::{asked, words, Lent, Library};
 use crate::limits::{number, Limits, Refusal, CELLS};
 
 /// What stands in a lent buffer that nothing must write.
@@ -74,7 +74,8 @@ impl Pair {
             Call::Run { events, answers } => {
                 let (mut proved, mut here) = (vec![0xAA; *answers], vec![0xAA; *answers]);
                 let record = &mut self.record[at..];
-                let answer = library.run(&mut self.image, events, rest, record, &mut proved, &mut counts);
+                let lent = Lent { events, supply: rest, record, answers: &mut proved, counts: &mut counts };
+                let answer = library.run(&mut self.image, lent);
                 let expected = self.link.run(events, rest, &mut self.expected[at..], &mut here);
                 (answer, expected, different(proved, here, || "answer buffer".into()))
             }
@@ -135,7 +136,8 @@ pub fn ride_difference(library: &dyn Library, case: &Case, events: &[u8], answer
     let (mut record, mut expected) = (case.record.clone(), case.record.clone());
     let (mut proved, mut here) = (vec![0xAA; answers], vec![0xAA; answers]);
     let mut counts = [BLANK; 3 + BEHIND];
-    let answer = library.ride(asked(case.limits), events, &case.supply, &mut record, &mut proved, &mut counts);
+    let lent = Lent { events, supply: &case.supply, record: &mut record, answers: &mut proved, counts: &mut counts };
+    let answer = library.ride(asked(case.limits), lent);
     let (opened, mut link) = Link::open(case.limits);
     let done = opened.and_then(|_| link.run(events, &case.supply, &mut expected, &mut here));
     different(answer, number(&done), || "number of the ride".into())

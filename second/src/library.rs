@@ -12,6 +12,20 @@ pub fn asked(limits: Limits) -> Asked {
     (window as u64, [data_life, reply_life, reply_wait, resend_wait].map(u32::from))
 }
 
+/// What a caller lends to a run.
+pub struct Lent<'a> {
+    /// Kinds and arguments, two bytes an event.
+    pub events: &'a [u8],
+    /// The rows to send.
+    pub supply: &'a [u16],
+    /// Where rows are recorded.
+    pub record: &'a mut [u16],
+    /// One byte for each event.
+    pub answers: &'a mut [u8],
+    /// Rows sent, acknowledged and recorded.
+    pub counts: &'a mut [u64],
+}
+
 /// The calls that keep a link in an image. Each gives the number of its answer.
 pub trait Library {
     /// Opens a link in the image.
@@ -21,26 +35,10 @@ pub trait Library {
     fn step(&self, image: &mut [u64], event: (u32, u32), supply: &[u16], record: &mut [u16], counts: &mut [u64]) -> u8;
 
     /// A run.
-    fn run(
-        &self,
-        image: &mut [u64],
-        events: &[u8],
-        supply: &[u16],
-        record: &mut [u16],
-        answers: &mut [u8],
-        counts: &mut [u64],
-    ) -> u8;
+    fn run(&self, image: &mut [u64], lent: Lent) -> u8;
 
     /// An opening and one run, without an image.
-    fn ride(
-        &self,
-        asked: Asked,
-        events: &[u8],
-        supply: &[u16],
-        record: &mut [u16],
-        answers: &mut [u8],
-        counts: &mut [u64],
-    ) -> u8;
+    fn ride(&self, asked: Asked, lent: Lent) -> u8;
 }
 
 /// The calls for frames. Each gives the number of its answer; a writer also gives the count of bytes.

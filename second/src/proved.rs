@@ -1,6 +1,6 @@
 //! The proved static library (feature `proved`). A slice is passed as a pointer and a length.
 
-use crate::library::{Asked, FrameLibrary, Library};
+use crate::library::{Asked, FrameLibrary, Lent, Library};
 
 #[link(name = "exports", kind = "static")]
 unsafe extern "C" {
@@ -111,15 +111,8 @@ impl Library for Proved {
         }
     }
 
-    fn run(
-        &self,
-        image: &mut [u64],
-        events: &[u8],
-        supply: &[u16],
-        record: &mut [u16],
-        answers: &mut [u8],
-        counts: &mut [u64],
-    ) -> u8 {
+    fn run(&self, image: &mut [u64], lent: Lent) -> u8 {
+        let Lent { events, supply, record, answers, counts } = lent;
         unsafe {
             matlink_run(
                 image.as_mut_ptr(),
@@ -138,15 +131,8 @@ impl Library for Proved {
         }
     }
 
-    fn ride(
-        &self,
-        asked: Asked,
-        events: &[u8],
-        supply: &[u16],
-        record: &mut [u16],
-        answers: &mut [u8],
-        counts: &mut [u64],
-    ) -> u8 {
+    fn ride(&self, asked: Asked, lent: Lent) -> u8 {
+        let Lent { events, supply, record, answers, counts } = lent;
         let (window, [data_life, reply_life, reply_wait, resend_wait]) = asked;
         unsafe {
             matlink_ride(

@@ -30,40 +30,39 @@ questions l supply space s (loseData p) = ask 17 (ltb p (length (s .dataTable)))
 questions l supply space s (loseReply p) = ask 17 (ltb p (length (s .replyTable))) ∷ []
 questions l supply space s (tick d) = []
 
--- row m goes out: a message with a full life, and its resend timer started; `next` is the number to be sent after it
-abbrev pub sent : Limits → Ends → ℕ → ℕ → List ℕ → Ends
-sent l s m next row =
+-- the ends with other values at the mat, at the pad, and in the air
+abbrev pub withMat : Ends → ℕ → ℕ → (ℕ → Bool) → (ℕ → ℕ) → (ℕ → List ℕ) → Ends
+withMat s oldest next acknowledged resendTimer keptRow =
     record {
-      oldest = s .oldest;
+      oldest = oldest;
       next = next;
       wanted = s .wanted;
-      acknowledged = s .acknowledged;
-      resendTimer = at m (l .resendwait) (s .resendTimer);
-      keptRow = at m row (s .keptRow);
-      held = s .held;
-      replyTimer = s .replyTimer;
-      heldRow = s .heldRow;
-      dataTable = put (record { body = record { number = m; row = row }; life = l .datalife }) (s .dataTable);
-      replyTable = s .replyTable;
-      recorded = s .recorded;
-    }
-
--- a reply for the numbers from first to last is put with the reply life
-abbrev pub replied : Limits → Ends → ℕ → ℕ → Ends
-replied l s first last =
-    record {
-      oldest = s .oldest;
-      next = s .next;
-      wanted = s .wanted;
-      acknowledged = s .acknowledged;
-      resendTimer = s .resendTimer;
-      keptRow = s .keptRow;
+      acknowledged = acknowledged;
+      resendTimer = resendTimer;
+      keptRow = keptRow;
       held = s .held;
       replyTimer = s .replyTimer;
       heldRow = s .heldRow;
       dataTable = s .dataTable;
-      replyTable = put (record { body = record { first = first; last = last }; life = l .replylife }) (s .replyTable);
+      replyTable = s .replyTable;
       recorded = s .recorded;
+    }
+
+abbrev pub withPad : Ends → ℕ → (ℕ → Bool) → (ℕ → ℕ) → (ℕ → List ℕ) → List ℕ → Ends
+withPad s wanted held replyTimer heldRow recorded =
+    record {
+      oldest = s .oldest;
+      next = s .next;
+      wanted = wanted;
+      acknowledged = s .acknowledged;
+      resendTimer = s .resendTimer;
+      keptRow = s .keptRow;
+      held = held;
+      replyTimer = replyTimer;
+      heldRow = heldRow;
+      dataTable = s .dataTable;
+      replyTable = s .replyTable;
+      recorded = recorded;
     }
 
 abbrev pub withTables : Ends → List (Message Data) → List (Message Reply) → Ends
@@ -83,23 +82,23 @@ withTables s datas replies =
       recorded = s .recorded;
     }
 
+-- row m goes out: a message with a full life, and its resend timer started; `next` is the number to be sent after it
+abbrev pub sent : Limits → Ends → ℕ → ℕ → List ℕ → Ends
+sent l s m next row =
+    withMat (withTables s (put (record { body = record { number = m; row = row }; life = l .datalife }) (s .dataTable)) (s .replyTable))
+    (s .oldest) next (s .acknowledged) (at m (l .resendwait) (s .resendTimer)) (at m row (s .keptRow))
+
+-- a reply for the numbers from first to last is put with the reply life
+abbrev pub replied : Limits → Ends → ℕ → ℕ → Ends
+replied l s first last =
+    withTables s (s .dataTable) (put (record { body = record { first = first; last = last }; life = l .replylife }) (s .replyTable))
+
 -- the row is held, whatever was there, and its reply timer starts
 abbrev pub holding : Limits → Ends → Data → Ends
 holding l s x =
-    record {
-      oldest = s .oldest;
-      next = s .next;
-      wanted = s .wanted;
-      acknowledged = s .acknowledged;
-      resendTimer = s .resendTimer;
-      keptRow = s .keptRow;
-      held = at (x .number) true (s .held);
-      replyTimer = at (x .number) (l .replywait) (s .replyTimer);
-      heldRow = at (x .number) (x .row) (s .heldRow);
-      dataTable = s .dataTable;
-      replyTable = s .replyTable;
-      recorded = s .recorded;
-    }
+    withPad s (s .wanted) (at (x .number) true (s .held))
+    (at (x .number) (l .replywait) (s .replyTimer))
+    (at (x .number) (x .row) (s .heldRow)) (s .recorded)
 
 -- an old row gets a reply of its own, any other is held
 abbrev pub arrived : Limits → Ends → Data → Ends
@@ -108,20 +107,7 @@ arrived l s x = pick (ltb (x .number) (s .wanted)) (replied l s (x .number) (x .
 -- n rows from wanted on go to the record, and wanted passes them
 abbrev pub recording : Ends → ℕ → Ends
 recording s n =
-    record {
-      oldest = s .oldest;
-      next = s .next;
-      wanted = s .wanted + n;
-      acknowledged = s .acknowledged;
-      resendTimer = s .resendTimer;
-      keptRow = s .keptRow;
-      held = s .held;
-      replyTimer = s .replyTimer;
-      heldRow = s .heldRow;
-      dataTable = s .dataTable;
-      replyTable = s .replyTable;
-      recorded = s .recorded ++ joined (tab n (λ i. s .heldRow (s .wanted + i)));
-    }
+    withPad s (s .wanted + n) (s .held) (s .replyTimer) (s .heldRow) (s .recorded ++ joined (tab n (λ i. s .heldRow (s .wanted + i))))
 
 -- marks once the span of a reply is added
 abbrev pub marks : Ends → Reply → ℕ → Bool
@@ -130,38 +116,14 @@ marks s x m = s .acknowledged m || (leb (x .first) m && leb m (x .last))
 -- oldest moves on to the first number without a mark, and no further than next
 abbrev pub acknowledging : Ends → Reply → Ends
 acknowledging s x =
-    record {
-      oldest = s .oldest + leading (marks s x) (tab (s .next - s .oldest) (λ i. s .oldest + i));
-      next = s .next;
-      wanted = s .wanted;
-      acknowledged = marks s x;
-      resendTimer = s .resendTimer;
-      keptRow = s .keptRow;
-      held = s .held;
-      replyTimer = s .replyTimer;
-      heldRow = s .heldRow;
-      dataTable = s .dataTable;
-      replyTable = s .replyTable;
-      recorded = s .recorded;
-    }
+    withMat s (s .oldest + leading (marks s x) (tab (s .next - s .oldest) (λ i. s .oldest + i))) (s .next) (marks s x) (s .resendTimer) (s .keptRow)
 
 -- every timer and life falls by d
 abbrev pub later : ℕ → Ends → Ends
 later d s =
-    record {
-      oldest = s .oldest;
-      next = s .next;
-      wanted = s .wanted;
-      acknowledged = s .acknowledged;
-      resendTimer = λ m. s .resendTimer m - d;
-      keptRow = s .keptRow;
-      held = s .held;
-      replyTimer = λ m. s .replyTimer m - d;
-      heldRow = s .heldRow;
-      dataTable = age d (s .dataTable);
-      replyTable = age d (s .replyTable);
-      recorded = s .recorded;
-    }
+    withMat
+    (withPad (withTables s (age d (s .dataTable)) (age d (s .replyTable))) (s .wanted) (s .held) (λ m. s .replyTimer m - d) (s .heldRow) (s .recorded))
+    (s .oldest) (s .next) (s .acknowledged) (λ m. s .resendTimer m - d) (s .keptRow)
 
 abbrev pub dataAt : Ends → ℕ → Data
 dataAt s p = getD (s .dataTable) p (record { body = record { number = 0; row = [] }; life = 0 }) .body

@@ -5,7 +5,7 @@
 
 use second::built::Link;
 use second::image::IMAGE_LENGTH;
-use second::library::{asked, Library};
+use second::library::{asked, Lent, Library};
 use second::proved::Proved;
 use second::rides::{all_rides, Ride};
 use std::hint::black_box;
@@ -18,7 +18,7 @@ const LENGTH: usize = 20_000;
 const TIMES: usize = 30;
 
 /// Buffers that the caller lends, the same for both.
-struct Lent {
+struct Buffers {
     image: Vec<u64>,
     link: Link,
     record: Vec<u16>,
@@ -26,18 +26,18 @@ struct Lent {
     counts: [u64; 3],
 }
 
-impl Lent {
-    fn new(ride: &Ride) -> Lent {
+impl Buffers {
+    fn new(ride: &Ride) -> Buffers {
         let mut image = vec![0; IMAGE_LENGTH];
         assert_eq!(Proved.open(asked(ride.limits), &mut image), 0);
         let (opened, link) = Link::open(ride.limits);
         assert_eq!(opened, Ok(()));
-        Lent { image, link, record: vec![0; ride.supply.len()], answers: vec![0; ride.events.len() / 2], counts: [0; 3] }
+        Buffers { image, link, record: vec![0; ride.supply.len()], answers: vec![0; ride.events.len() / 2], counts: [0; 3] }
     }
 
     fn proved(&mut self, ride: &Ride) -> u8 {
-        let Lent { image, record, answers, counts, .. } = self;
-        Proved.run(image, &ride.events, &ride.supply, record, answers, counts)
+        let Buffers { image, record, answers, counts, .. } = self;
+        Proved.run(image, Lent { events: &ride.events, supply: &ride.supply, record, answers, counts })
     }
 
     fn second(&mut self, ride: &Ride) -> bool {
@@ -53,11 +53,11 @@ pub fn second_run(link: &mut Link, events: &[u8], supply: &[u16], record: &mut [
 }
 
 /// Events per second, the best of some runs, each on a fresh link and in buffers that an earlier run wrote.
-fn rate(ride: &Ride, run: impl Fn(&mut Lent)) -> f64 {
-    let mut lent = Lent::new(ride);
+fn rate(ride: &Ride, run: impl Fn(&mut Buffers)) -> f64 {
+    let mut lent = Buffers::new(ride);
     let mut best = f64::MAX;
     for _ in 0..TIMES {
-        let fresh = Lent::new(ride);
+        let fresh = Buffers::new(ride);
         (lent.image, lent.link) = (fresh.image, fresh.link);
         let start = Instant::now();
         run(black_box(&mut lent));
@@ -68,7 +68,7 @@ fn rate(ride: &Ride, run: impl Fn(&mut Lent)) -> f64 {
 
 /// How many events of the ride are refused, which both must agree on.
 fn refused(ride: &Ride) -> usize {
-    let (mut proved, mut second) = (Lent::new(ride), Lent::new(ride));
+    let (mut proved, mut second) = (Buffers::new(ride), Buffers::new(ride));
     proved.proved(ride);
     second.second(ride);
     assert!(proved.answers == second.answers && proved.record == second.record, "both runs are the same");
@@ -89,8 +89,8 @@ fn main() {
     let rides = all_rides(LENGTH);
     let ride = words.get(1).map(|n| &rides[n.parse::<usize>().expect("a ride's place")]);
     match (words.first().map(String::as_str), ride) {
-        (Some("proved"), Some(ride)) => assert_eq!(Lent::new(ride).proved(ride), 0),
-        (Some("second"), Some(ride)) => assert!(Lent::new(ride).second(ride)),
+        (Some("proved"), Some(ride)) => assert_eq!(Buffers::new(ride).proved(ride), 0),
+        (Some("second"), Some(ride)) => assert!(Buffers::new(ride).second(ride)),
         _ => times(&rides),
     }
 }

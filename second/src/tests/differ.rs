@@ -7,7 +7,7 @@ use crate::compare::Case;
 use crate::differ::{difference, ride_difference, Pair};
 use crate::draw::{random_case, sound_link};
 use crate::image::{image_of, link_of, IMAGE_LENGTH};
-use crate::library::{words, Asked, Library};
+use crate::library::{words, Asked, Lent, Library};
 use crate::limits::{number, Limits, Refusal};
 use crate::random::Random;
 use crate::short::{all_short, Short};
@@ -47,32 +47,17 @@ impl Library for StandIn {
         give(done, counts)
     }
 
-    fn run(
-        &self,
-        image: &mut [u64],
-        events: &[u8],
-        supply: &[u16],
-        record: &mut [u16],
-        answers: &mut [u8],
-        counts: &mut [u64],
-    ) -> u8 {
+    fn run(&self, image: &mut [u64], lent: Lent) -> u8 {
         let mut link = link_of(image);
-        let done = link.run(events, supply, record, answers);
+        let done = link.run(lent.events, lent.supply, lent.record, lent.answers);
         keep(&link, image);
-        give(done, counts)
+        give(done, lent.counts)
     }
 
-    fn ride(
-        &self,
-        asked: Asked,
-        events: &[u8],
-        supply: &[u16],
-        record: &mut [u16],
-        answers: &mut [u8],
-        counts: &mut [u64],
-    ) -> u8 {
+    fn ride(&self, asked: Asked, lent: Lent) -> u8 {
         let (opened, mut link) = Link::open(limits_of(asked));
-        give(opened.and_then(|_| link.run(events, supply, record, answers)), counts)
+        let done = opened.and_then(|_| link.run(lent.events, lent.supply, lent.record, lent.answers));
+        give(done, lent.counts)
     }
 }
 
