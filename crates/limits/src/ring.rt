@@ -1,4 +1,4 @@
-// Inner: called by mat, pad and the link. Steps on the ring of n numbers, by one comparison instead of a remainder.
+// Inner: called by rows, mat, pad and frames. Steps on the ring of n numbers, by one comparison instead of a remainder.
 ghost use mathlib.Core.Path.{_≡_};
 ghost use Prim.Native.Nat.{_*_, _<_, _≤_};
 ghost use Rattle.limits.specs.Ring.{distance, step, place};
