@@ -1,6 +1,5 @@
 pub mod Modulo
 pub mod Agrees
-pub mod Tables
 pub mod At
 pub mod Tests
 pub mod Events

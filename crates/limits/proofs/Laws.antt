@@ -2,6 +2,7 @@ pub mod Ring
 pub mod Choice
 pub mod Lists
 pub mod Tables
+pub mod Mapped
 pub mod Good
 pub mod Promise
 pub mod Messages

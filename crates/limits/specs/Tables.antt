@@ -35,10 +35,18 @@ remove p [] = []
 remove zero (m ∷ ms) = ms
 remove (suc p) (m ∷ ms) = m ∷ remove p ms
 
+-- what is left of a message after d ticks
+abbrev pub aged : {B : Type 0} → ℕ → Message B → Message B
+aged d m = record { body = m .body; life = m .life - d }
+
+-- the message whose body is read by g
+abbrev pub onBody : {B C : Type 0} → (B → C) → Message B → Message C
+onBody g m = record { body = g (m .body); life = m .life }
+
 -- d ticks pass: lives fall by d, and messages with no life left go
 unfoldable pub age : {B : Type 0} → ℕ → List (Message B) → List (Message B)
 age d [] = []
-age d (m ∷ ms) = pick (leb (m .life) d) (age d ms) (record { body = m .body; life = m .life - d } ∷ age d ms)
+age d (m ∷ ms) = pick (leb (m .life) d) (age d ms) (aged d m ∷ age d ms)
 
 -- how many numbers a reply covers, read on from first to last
 abbrev pub span : ℕ → Reply → ℕ

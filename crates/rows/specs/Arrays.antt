@@ -15,6 +15,10 @@ changed d test new xs = tab (length xs) (λ i. pick (test i) (new i) (getD xs i 
 abbrev pub from-to : ℕ → ℕ → ℕ → Bool
 from-to a b i = leb a i && ltb i b
 
+-- `words` at `at`, however many they are
+unfoldable pub pasted : ℕ → List ℕ → List ℕ → List ℕ
+pasted at words = changed 0 (from-to at (at + length words)) (λ i. getD words (i - at) 0)
+
 -- `row` at `at`
 unfoldable pub written : ℕ → List ℕ → List ℕ → List ℕ
 written at row = changed 0 (from-to at (at + 16)) (λ i. getD row (i - at) 0)

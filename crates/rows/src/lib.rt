@@ -6,7 +6,7 @@ ghost use lib.ListN.{length, take, drop, getD, set};
 ghost use lib.Dec.{leb};
 ghost use Rattle.limits.specs.Lists.{tab, all};
 ghost use Rattle.limits.specs.Cells.{rowAt, legalRow};
-ghost use Rattle.rows.specs.Arrays.{written, fallen, closed, spanSet};
+ghost use Rattle.rows.specs.Arrays.{pasted, written, fallen, closed, spanSet};
 
 pub mod messages;
 
@@ -24,15 +24,22 @@ pub fn read(cells: &[u16], at: usize) -> [u16; 16]
     row
 }
 
+pub fn copy(xs: &mut [u16], at: usize, words: &[u16])
+    requires { ⌜ at + length (now words) ≤ length (now xs) ⌝ }
+    ensures { λ _. ⌜ now (xs .exit) ≡ pasted at (now (words .entry)) (now (xs .entry)) ⌝ }
+{
+    let mut i = 0;
+    while i < words.len() {
+        xs[at + i] = words[i];
+        i += 1;
+    }
+}
+
 pub fn write(cells: &mut [u16], at: usize, row: [u16; 16])
     requires { ⌜ at + 16 ≤ length (now cells) ⌝ }
     ensures { λ _. ⌜ now (cells .exit) ≡ written at row (now (cells .entry)) ⌝ }
 {
-    let mut i = 0;
-    while i < 16 {
-        cells[at + i] = row[i];
-        i += 1;
-    }
+    copy(cells, at, &row);
 }
 
 pub fn load(cells: &[u16; 512], place: usize) -> [u16; 16]
@@ -73,7 +80,7 @@ pub fn at_most(xs: &[u16; 32], n: usize, most: u16) -> bool
     true
 }
 
-fn less(x: u16, d: u16) -> u16
+pub fn less(x: u16, d: u16) -> u16
     ensures { λ r. ⌜ r ≡ x - d ⌝ }
 {
     if d <= x { x - d } else { 0 }

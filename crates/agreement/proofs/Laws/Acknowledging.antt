@@ -23,7 +23,7 @@ use Rattle.agreement.specs.Reading.{reading, matOf, replyModulo}
 use Rattle.agreement.proofs.Laws.Modulo.{step-modulo, distance-modulo}
 use Rattle.limits.proofs.Laws.Questions.{each}
 use Rattle.agreement.proofs.Laws.Agrees.{agrees}
-use Rattle.agreement.proofs.Laws.Tables.{table-at, table-remove}
+use Rattle.limits.proofs.Laws.Mapped.{table-at, table-remove}
 use Rattle.agreement.proofs.Laws.Mat.{window, window-length, rows-marked, rows-passed, front-agrees}
 use Rattle.agreement.proofs.Laws.Events.{Asks, Acts, link-path}
 

@@ -16,7 +16,7 @@ use Rattle.unbounded.specs.Rules as unbounded
 use Rattle.link.specs.Rules as link
 use Rattle.unbounded.proofs.Laws.Reads.{Reads}
 use Rattle.agreement.specs.Reading.{dataModulo, replyModulo, matOf, padOf, reading}
-use Rattle.agreement.proofs.Laws.Tables.{length-put, table-at, table-remove, table-put}
+use Rattle.limits.proofs.Laws.Mapped.{length-put, table-at, table-remove, table-put}
 use Rattle.agreement.proofs.Laws.Pad.{numberRead, oldRow, newRow, arrival-read}
 
 -- a reply with a full life

@@ -25,7 +25,7 @@ use Rattle.unbounded.proofs.Laws.Reads.{Reads}
 use Rattle.agreement.specs.Reading.{dataModulo, replyModulo, matOf, padOf, reading}
 use Rattle.agreement.proofs.Laws.Events.{built, Room, Asks, Acts}
 use Rattle.agreement.proofs.Laws.Agrees.{agrees}
-use Rattle.agreement.proofs.Laws.Tables.{length-put, table-remove, table-put, table-age}
+use Rattle.limits.proofs.Laws.Mapped.{length-put, table-remove, table-put, table-age}
 use Rattle.agreement.proofs.Laws.Pad.{ticked-read, run-read, run-some}
 use Rattle.agreement.proofs.Laws.Replying.{answered, replyRead, replying-read, space-read}
 use Rattle.agreement.proofs.Laws.Arriving.{arriving-read, arriving-room, freshReply}

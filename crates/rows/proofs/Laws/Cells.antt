@@ -7,7 +7,7 @@ use lib.ListN.{length, getD, take, drop, length-take, length-drop}
 use lib.Seq.{ext-getD, getD-take, getD-drop}
 use Rattle.limits.specs.Cells.{rowAt}
 use Rattle.limits.proofs.Laws.Choice.{split}
-use Rattle.rows.specs.Arrays.{changed, from-to, written}
+use Rattle.rows.specs.Arrays.{changed, from-to, pasted, written}
 use Rattle.rows.proofs.Laws.Changed.{length-changed, changed-at, changed-other, inside, below, above}
 
 pub length-part : (cells : List ℕ) (at : ℕ) → at + 16 ≤ length cells → length (take 16 (drop at cells)) ≡ 16
@@ -29,6 +29,11 @@ read-done cells row row₀ at h l e =
 pub length-written : (at : ℕ) (row cells : List ℕ) → length (written at row cells) ≡ length cells
 unfolding written
 length-written at row cells = length-changed 0 _ _ cells
+
+-- sixteen words are a row
+pub pasted-row : (at : ℕ) (row cells next : List ℕ) → length row ≡ 16 → next ≡ pasted at row cells → next ≡ written at row cells
+unfolding pasted written
+pasted-row at row cells next l e = e ∙ ap (λ n. changed 0 (from-to at (at + n)) (λ i. getD row (i - at) 0) cells) l
 
 -- the row that was written, and any row apart from it
 pub written-row : (at : ℕ) (row cells : List ℕ) → at + 16 ≤ length cells → length row ≡ 16 → take 16 (drop at (written at row cells)) ≡ row

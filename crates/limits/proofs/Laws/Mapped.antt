@@ -5,8 +5,8 @@ use mathlib.Core.List.{List, [], _∷_, map, map-append}
 use native.Mathlib.Omega.{arith}
 use lib.Dec.{leb}
 use lib.ListN.{length, getD, length-append}
-use Rattle.limits.specs.Tables.{Message, put, remove, age}
+use Rattle.limits.specs.Tables.{Message, onBody, put, remove, age}
 use Rattle.limits.proofs.Laws.Choice.{test, pick-yes, pick-no}
 
 pub length-put : {A : Type 0} (x : A) (xs : List A) → length (put x xs) ≡ length xs + 1
 length-put x xs = length-append xs (x ∷ [])
@@ -25,10 +25,6 @@ module _ {A B : Type 0} (f : A → B) where
 
   pub table-put : (x : A) (xs : List A) → put (f x) (map f xs) ≡ map f (put x xs)
   table-put x xs = sym (map-append f xs (x ∷ []))
-
--- the body read by g, and the life as it is
-abbrev pub onBody : {B C : Type 0} → (B → C) → Message B → Message C
-onBody g x = record { body = g (x .body); life = x .life }
 
 module _ {B C : Type 0} (g : B → C) (d : ℕ) where
   pub table-age : (xs : List (Message B)) → age d (map (onBody g) xs) ≡ map (onBody g) (age d xs)

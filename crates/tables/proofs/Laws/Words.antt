@@ -1,0 +1,1 @@
+-- Laws on tables of words.
