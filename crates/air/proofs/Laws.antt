@@ -1,5 +1,4 @@
-pub mod Arrays
 pub mod Sound
-pub mod Data
-pub mod Replies
+pub mod Typed
+pub mod Words
 pub mod Fresh

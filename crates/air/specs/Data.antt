@@ -1,29 +1,25 @@
--- The data table as a list of messages. What stands in its arrays beyond the count is free: it does not occur in the list.
+-- The data table as a list of messages. What stands in its words beyond the count is free: it does not occur in the list.
 use Prim.Native.Nat.{ℕ}
 use mathlib.Core.Bool.{Bool}
-use mathlib.Core.List.{List}
+use mathlib.Core.List.{List, map}
 use lib.ListN.{getD, replicate}
 use Rattle.limits.specs.declared.Limits.{Limits}
-use Rattle.limits.specs.Lists.{tab}
-use Rattle.limits.specs.Cells.{rowAt}
 use Rattle.limits.specs.Questions.{Question, Answers, Called}
-use Rattle.limits.specs.Tables.{Message, Data, soundData}
+use Rattle.limits.specs.Tables.{Message, Data, onBody, soundData}
 use Rattle.air.specs.declared.datatable.DataTable.{DataTable}
-use Rattle.air.specs.declared.datatable.DataMessage.{DataMessage}
+use Rattle.air.specs.declared.messages.DataMessage.{DataMessage}
 use Rattle.air.specs.declared.datatable.DataAnswer.{DataAnswer}
 use Rattle.air.specs.declared.datatable.DataRead.{DataRead}
+use Rattle.tables.specs.Words.{messages}
+use Rattle.air.specs.Kinds.{dataOf}
 use Rattle.air.specs.Rules.{soundMessage, soundMessages}
 
--- message i of the three arrays
-abbrev pub dataAt : List ℕ → List ℕ → List ℕ → ℕ → Message Data
-dataAt numbers lives cells i = record { body = record { number = getD numbers i 0; row = rowAt cells i }; life = getD lives i 0 }
-
--- the table of a count and the three arrays
-abbrev pub dataTable : ℕ → List ℕ → List ℕ → List ℕ → DataTable
-dataTable count numbers lives cells = record { count = count; numbers = numbers; lives = lives; cells = cells }
+-- the table of a count and its words
+abbrev pub dataTable : ℕ → List ℕ → DataTable
+dataTable count words = record { count = count; words = words }
 
 unfoldable pub dataMessages : DataTable → List (Message Data)
-dataMessages t = tab (t .count) (dataAt (t .numbers) (t .lives) (t .cells))
+dataMessages t = map (onBody dataOf) (messages 18 (t .count) (t .words))
 
 abbrev pub dataMessage : DataMessage → Message Data
 dataMessage m = record { body = record { number = m .number; row = m .row }; life = m .life }
@@ -32,7 +28,7 @@ abbrev pub noData : Message Data
 noData = record { body = record { number = 0; row = replicate 16 0 }; life = 0 }
 
 abbrev pub emptyData : DataTable
-emptyData = record { count = 0; numbers = replicate 32 0; lives = replicate 32 0; cells = replicate 512 0 }
+emptyData = record { count = 0; words = replicate 576 0 }
 
 abbrev pub soundDataMessage : Limits → Message Data → Bool
 soundDataMessage l m = soundMessage (soundData l) (l .datalife) m

@@ -6,22 +6,17 @@ ghost use Rattle.limits.specs.Questions.{ask, timeQuestions};
 ghost use Rattle.limits.specs.Limits.{soundLimits};
 ghost use Rattle.limits.specs.Tables.{put, remove, age};
 ghost use Rattle.air.specs.Rules.{roomQuestions, placeQuestions};
-ghost use Rattle.air.specs.Replies.{replyMessages, replyMessage, soundReplyMessage, soundReplyTable, emptyReplies, ReplyCall, ReplyReading};
-use crate::soundreplies;
+ghost use Rattle.air.specs.Replies.{replyTable, replyMessages, replyMessage, soundReplyMessage, soundReplyTable, emptyReplies, noReply, ReplyCall, ReplyReading};
+use crate::lent;
+use crate::lent::Kind;
+use crate::messages;
+use crate::messages::ReplyMessage;
 use limits::Limits;
 use limits::answer::Answer;
 
 pub struct ReplyTable {
     pub count: usize,
-    pub firsts: [u16; 32],
-    pub lasts: [u16; 32],
-    pub lives: [u16; 32],
-}
-
-pub struct ReplyMessage {
-    pub first: usize,
-    pub last: usize,
-    pub life: u16,
+    pub words: [u16; 96],
 }
 
 pub struct ReplyAnswer {
@@ -34,106 +29,49 @@ pub struct ReplyRead {
     pub message: ReplyMessage,
 }
 
+// The table hands out and takes back its insides itself.
+pub fn count_of(t: ReplyTable) -> usize
+    ensures { λ r. ⌜ r ≡ t .count ⌝ }
+{
+    t.count
+}
+
+pub fn words_of(t: ReplyTable) -> [u16; 96]
+    ensures { λ r. ⌜ r ≡ t .words ⌝ }
+{
+    t.words
+}
+
+pub fn assembled(count: usize, words: [u16; 96]) -> ReplyTable
+    ensures { λ r. ⌜ r ≡ replyTable count words ⌝ }
+{
+    ReplyTable { count, words }
+}
+
 pub fn empty() -> ReplyTable
     ensures { λ r. ⌜ r ≡ emptyReplies ⌝ }
 {
-    ReplyTable {
-        count: 0,
-        firsts: [0; 32],
-        lasts: [0; 32],
-        lives: [0; 32],
-    }
+    assembled(0, [0; 96])
 }
 
 // Question 4 of limits and a table.
 pub fn sound(l: Limits, t: ReplyTable) -> bool
     ensures { λ r. ⌜ r ≡ (soundLimits l && soundReplyTable l t) ⌝ }
 {
-    limits::sound_limits(l) && soundreplies::table_sound(l, t)
+    let words = t.words;
+    lent::sound(l, Kind::OfReplies, t.count, &words)
 }
 
-// Question 4 of limits, a table and a message.
-fn sound_with(l: Limits, t: ReplyTable, m: ReplyMessage) -> bool
-    ensures { λ r. ⌜ r ≡ (soundLimits l && (soundReplyTable l t && soundReplyMessage l (replyMessage m))) ⌝ }
-{
-    limits::sound_limits(l)
-        && (soundreplies::table_sound(l, t) && soundreplies::message_sound(l, m))
-}
 
-fn unsound(t: ReplyTable) -> ReplyAnswer
-    ensures { λ r. ⌜ (r .answer ≡ Answer.Unsound) × (r .table ≡ t) ⌝ }
-{
-    ReplyAnswer {
-        answer: Answer::Unsound,
-        table: t,
-    }
-}
 
-// A message is put at the table's end: 4, 18.
-pub fn put(l: Limits, t: ReplyTable, m: ReplyMessage) -> ReplyAnswer
-    ensures { λ r. ⌜ ReplyCall l t
-        (ask 4 (soundLimits l && (soundReplyTable l t && soundReplyMessage l (replyMessage m))) ∷ roomQuestions 18 (replyMessages t))
-        (put (replyMessage m) (replyMessages t)) r ⌝ }
-{
-    if sound_with(l, t, m) {
-        let mut firsts = t.firsts;
-        let mut lasts = t.lasts;
-        let mut lives = t.lives;
-        let r = soundreplies::put(l, t.count, &mut firsts, &mut lasts, &mut lives, m);
-        let answer = r.answer;
-        let table = ReplyTable {
-            count: r.count,
-            firsts,
-            lasts,
-            lives,
-        };
-        ReplyAnswer { answer, table }
-    } else {
-        unsound(t)
-    }
-}
 
-// Message p leaves, and the gap is closed: 4, 17.
-pub fn remove(l: Limits, t: ReplyTable, p: usize) -> ReplyAnswer
-    ensures { λ r. ⌜ ReplyCall l t (ask 4 (soundLimits l && soundReplyTable l t) ∷ placeQuestions p (replyMessages t)) (remove p (replyMessages t)) r ⌝ }
+// An answer with a message of zeros.
+fn unread(answer: Answer) -> ReplyRead
+    ensures { λ r. ⌜ (r .answer ≡ answer) × (replyMessage (r .message) ≡ noReply) ⌝ }
 {
-    if sound(l, t) {
-        let mut firsts = t.firsts;
-        let mut lasts = t.lasts;
-        let mut lives = t.lives;
-        let r = soundreplies::remove(l, t.count, &mut firsts, &mut lasts, &mut lives, p);
-        let answer = r.answer;
-        let table = ReplyTable {
-            count: r.count,
-            firsts,
-            lasts,
-            lives,
-        };
-        ReplyAnswer { answer, table }
-    } else {
-        unsound(t)
-    }
-}
-
-// Lives fall by d, and messages with no life left go: 4, 9.
-pub fn tick(l: Limits, t: ReplyTable, d: u16) -> ReplyAnswer
-    ensures { λ r. ⌜ ReplyCall l t (ask 4 (soundLimits l && soundReplyTable l t) ∷ timeQuestions d) (age d (replyMessages t)) r ⌝ }
-{
-    if sound(l, t) {
-        let mut firsts = t.firsts;
-        let mut lasts = t.lasts;
-        let mut lives = t.lives;
-        let r = soundreplies::tick(l, t.count, &mut firsts, &mut lasts, &mut lives, d);
-        let answer = r.answer;
-        let table = ReplyTable {
-            count: r.count,
-            firsts,
-            lasts,
-            lives,
-        };
-        ReplyAnswer { answer, table }
-    } else {
-        unsound(t)
+    ReplyRead {
+        answer,
+        message: ReplyMessage { first: 0, last: 0, life: 0 },
     }
 }
 
@@ -141,12 +79,13 @@ pub fn tick(l: Limits, t: ReplyTable, d: u16) -> ReplyAnswer
 pub fn read(l: Limits, t: ReplyTable, p: usize) -> ReplyRead
     ensures { λ r. ⌜ ReplyReading t p (ask 4 (soundLimits l && soundReplyTable l t) ∷ placeQuestions p (replyMessages t)) r ⌝ }
 {
-    if sound(l, t) {
-        let firsts = t.firsts;
-        let lasts = t.lasts;
-        let lives = t.lives;
-        soundreplies::read(l, t.count, &firsts, &lasts, &lives, p)
-    } else {
-        soundreplies::unread(Answer::Unsound)
+    let words = t.words;
+    let answer = lent::found(l, Kind::OfReplies, t.count, &words, p);
+    let Answer::Done = answer else {
+        return unread(answer);
+    };
+    ReplyRead {
+        answer,
+        message: messages::reply_at(&words, p),
     }
 }

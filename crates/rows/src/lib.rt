@@ -1,6 +1,7 @@
 // Inner: called by air, mat, pad, frames and exports. Work on rows of 16 cells and on arrays of 32 entries, each helper with what
 // it needs alone.
 ghost use mathlib.Core.Path.{_≡_};
+ghost use mathlib.Core.Bool.{_&&_};
 ghost use Prim.Native.Nat.{_+_, _-_, _≤_, _<_, _%_};
 ghost use lib.ListN.{length, take, drop, getD, set};
 ghost use lib.Dec.{leb};
@@ -62,6 +63,13 @@ pub fn legal_row(row: [u16; 16]) -> bool
         }
     }
     true
+}
+
+// Both, with no branch.
+pub fn both(a: bool, b: bool) -> bool
+    ensures { λ r. ⌜ r ≡ (a && b) ⌝ }
+{
+    a & b
 }
 
 // Whether the first `n` entries are at most `most`.

@@ -14,6 +14,11 @@ pub pick-no : {A : Type 0} (b : Bool) (x y z : A) → b ≡ false → y ≡ z �
 unfolding pick
 pick-no b x y z e h = rw e h
 
+pub pick-under : {X Y : Type 0} (f : X → Y) (b : Bool) (x y : X) → f (pick b x y) ≡ pick b (f x) (f y)
+unfolding pick
+pick-under f true x y = refl
+pick-under f false x y = refl
+
 pub pick-cases : {A : Type 0} (P : A → Type 0) (b : Bool) (x y : A) → (b ≡ true → P x) → (b ≡ false → P y) → P (pick b x y)
 unfolding pick
 pick-cases P true x y f g = f refl

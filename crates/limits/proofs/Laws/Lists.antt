@@ -1,7 +1,7 @@
 -- Laws on lists given by index (`tab`) and on tests of every element (`all`).
 use Prim.Native.Nat.{ℕ, zero, suc, _+_, _-_, _≤_, _<_}
 use mathlib.Core.Path.{_≡_, refl, sym, _∙_, ap, ap₂}
-use mathlib.Core.Bool.{Bool, true, false, _&&_, and-assoc}
+use mathlib.Core.Bool.{Bool, true, false, _&&_, and-assoc, and-true}
 use mathlib.Core.List.{List, [], _∷_, _++_, map, map-append, append-assoc}
 use native.Mathlib.Numerals.{add-one}
 use native.Mathlib.Omega.{arith}
@@ -83,6 +83,11 @@ module _ {A : Type 0} where
     all-append [] ys = refl
     all-append (x ∷ xs) ys = ap (p x &&_) (all-append xs ys) ∙ sym (and-assoc (p x) (all p xs) (all p ys))
 
+    -- a turn of a loop that tests every element
+    pub all-next : (n : ℕ) (f : ℕ → A) → all p (tab (n + 1) f) ≡ (all p (tab n f) && p (f n))
+    unfolding tab all
+    all-next n f = rw add-one (all-append (tab n f) (f n ∷ []) ∙ ap (all p (tab n f) &&_) (and-true (p (f n))))
+
     pub all-more : (n : ℕ) (f : ℕ → A) → all p (tab n f) ≡ true → p (f n) ≡ true → all p (tab (n + 1) f) ≡ true
     unfolding tab all
     all-more n f e h = rw add-one (all-append (tab n f) (f n ∷ []) ∙ both (all p (tab n f)) _ e (both (p (f n)) true h refl))
@@ -105,6 +110,11 @@ module _ {A : Type 0} where
 
     pub all-tab-no : (n : ℕ) (f : ℕ → A) (i : ℕ) → i < n → p (f i) ≡ false → all p (tab n f) ≡ false
     all-tab-no n f i h e = test (all p (tab n f)) (λ a. absurd (clash (p (f i)) (all-tab-at n f a i h) e)) (λ a. a)
+
+pub all-map : {A B : Type 0} (p : B → Bool) (f : A → B) (xs : List A) → all p (map f xs) ≡ all (λ x. p (f x)) xs
+unfolding all
+all-map p f [] = refl
+all-map p f (x ∷ xs) = ap (p (f x) &&_) (all-map p f xs)
 
 pub map-tab : {A B : Type 0} (g : A → B) (n : ℕ) (f : ℕ → A) → map g (tab n f) ≡ tab n (λ i. g (f i))
 unfolding tab

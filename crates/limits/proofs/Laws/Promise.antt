@@ -12,7 +12,7 @@ use Rattle.limits.specs.declared.answer.Answer.the-variants.{Done, BadWi
 use Rattle.limits.specs.Answer.{numberOf}
 use Rattle.limits.specs.Questions.{pick, Question, ask, firstNo, Answers, Called, timeQuestions}
 use Rattle.limits.proofs.answer.Answer.{the-type}
-use Rattle.limits.proofs.Laws.Choice.{pick-yes, pick-no}
+use Rattle.limits.proofs.Laws.Choice.{pick-yes, pick-no, pick-under}
 
 -- the tags of the answers other than `Done`
 abbrev pub refusals : List ℕ
@@ -75,10 +75,10 @@ module _ {X : Type 0} (qs : List Question) (answer : Answer) (shown done refused
 
 -- Question 4 is put first: passed, the call promises what its sound twin does; answered no, it hands everything back.
 module _ (qs : List Question) (s : Bool) where
-  sound-first : s ≡ true → firstNo (ask 4 s ∷ qs) ≡ firstNo qs
+  pub sound-first : s ≡ true → firstNo (ask 4 s ∷ qs) ≡ firstNo qs
   sound-first e = pick-yes s (firstNo qs) 4 (firstNo qs) e refl
 
-  unsound-first : s ≡ false → 4 ≡ firstNo (ask 4 s ∷ qs)
+  pub unsound-first : s ≡ false → 4 ≡ firstNo (ask 4 s ∷ qs)
   unsound-first e = sym (pick-no s (firstNo qs) 4 4 e refl)
 
   module _ {X : Type 0} (answer : Answer) (shown done refused : X) where
@@ -132,4 +132,25 @@ called-as qs qs' answer shown done done' refused sound before after e d c =
             result = c .answers .result ∙ ap₂ (λ n x. pick (eqb n 0) x refused) e d;
           };
       keeps = record { kept = λ ne. c .keeps .kept (λ z. ne (sym e ∙ z)); stays = c .keeps .stays };
+    }
+
+-- a promise whose state and view are each read as another: by g and by f
+pub called-read : {S S' X X' : Type 0} (f : X → X') (g : S → S') (qs qs' : List Question) (answer : Answer) (shown done refused : X) (done' : X')
+    (sound : S → Bool) (sound' : S' → Bool) (before after : S) → firstNo qs ≡ firstNo qs' → f done ≡ done' → ((s : S) → sound' (g s) ≡ sound s)
+    → Called qs answer shown done refused sound before after → Called qs' answer (f shown) done' (f refused) sound' (g before) (g after)
+called-read f g qs qs' answer shown done refused done' sound sound' before after e d same c =
+    record {
+      answers =
+          record {
+            number = c .answers .number ∙ e;
+            result =
+                ap f (c .answers .result)
+                ∙ pick-under f (eqb (firstNo qs) 0) done refused
+                ∙ ap₂ (λ n x. pick (eqb n 0) x (f refused)) e d;
+          };
+      keeps =
+          record {
+            kept = λ ne. ap g (c .keeps .kept (λ z. ne (sym e ∙ z)));
+            stays = λ h. same after ∙ c .keeps .stays (sym (same before) ∙ h);
+          };
     }

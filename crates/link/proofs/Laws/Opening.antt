@@ -1,11 +1,10 @@
 -- A fresh link, and what an opening promises.
-use mathlib.Core.Path.{_≡_, refl, _∙_, ap}
-use mathlib.Core.Bool.{Bool, true, false}
+use mathlib.Core.Path.{_≡_, _∙_, ap}
 use mathlib.Core.List.{List}
 use lib.Dec.{eqb}
 use Rattle.limits.specs.declared.Limits.{Limits}
 use Rattle.limits.specs.declared.answer.Answer.{Answer}
-use Rattle.limits.specs.Questions.{pick, Question, firstNo, Answers}
+use Rattle.limits.specs.Questions.{Question, firstNo, Answers}
 use Rattle.mat.specs.declared.Mat.{Mat}
 use Rattle.mat.specs.View.{freshMat}
 use Rattle.pad.specs.declared.Pad.{Pad}
@@ -14,16 +13,12 @@ use Rattle.air.specs.declared.datatable.DataTable.{DataTable}
 use Rattle.air.specs.declared.replytable.ReplyTable.{ReplyTable}
 use Rattle.air.specs.Data.{emptyData}
 use Rattle.air.specs.Replies.{emptyReplies}
+use Rattle.limits.proofs.Laws.Choice.{pick-under}
 use Rattle.link.specs.View.{freshLink}
 
 pub link-fresh : (l : Limits) (m : Mat) (p : Pad) (d : DataTable) (r : ReplyTable) → m ≡ freshMat → p ≡ freshPad → d ≡ emptyData → r ≡ emptyReplies
     → record { limits = l; mat = m; pad = p; datas = d; replies = r } ≡ freshLink l
 link-fresh l m p d r a b e f = λ i. record { limits = l; mat = a i; pad = b i; datas = e i; replies = f i }
-
-pub pick-under : {X Y : Type 0} (f : X → Y) (b : Bool) (x y : X) → f (pick b x y) ≡ pick b (f x) (f y)
-unfolding pick
-pick-under f true x y = refl
-pick-under f false x y = refl
 
 -- an answer that is shown through a function
 pub answers-under : {X Y : Type 0} (f : X → Y) (qs : List Question) (answer : Answer) (shown done refused : X) (shown' : Y)

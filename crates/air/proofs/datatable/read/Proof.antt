@@ -1,24 +1,47 @@
+use mathlib.Core.Path.{_≡_, sym, _∙_, ap}
+use native.Mathlib.Omega.{arith}
+use lib.ListN.{length}
+use lib.Dec.{eqb}
 use borrow.Author.Needs.{needs}
-use mathlib.Core.Path.{sym, _∙_}
-use Rattle.limits.proofs.Laws.Promise.{answers-sound, answers-unsound}
-use Rattle.limits.proofs.Laws.Choice.{two}
+use Rattle.limits.specs.Answer.{numberOf}
+use Rattle.limits.proofs.Laws.Promise.{answers-done, answers-refused, not-done}
+use Rattle.air.proofs.Laws.Typed.{data-found, data-asked-place}
 use Rattle.air.proofs.datatable.read.Statement.{statement}
 use Rattle.air.proofs.datatable.read.Tie as tie
 
-sound-requires : tie.Need-sound-requires
-sound-requires c κs = search needs
+slice-aggregate-found : tie.Need-slice-aggregate-found
+slice-aggregate-found c = search needs
 
-read-requires : tie.Need-read-requires
-read-requires c κs = two _ _ (sym (c .before .before .before .before .before .before .before .sound .ensures) ∙ c .before .before .before .before .before .before .if1 .taken)
+found-requires : tie.Need-found-requires
+found-requires c κs = let h : length (c .before .before .args .t .words) ≡ 576 = search needs in omega arith
+
+enum-told : tie.Need-enum-told
+enum-told c = search needs
 
 unread-requires : tie.Need-unread-requires
 unread-requires c κs = search needs
 
 returns : tie.Need-returns
-returns c = answers-sound _ _ _ _ _ _ (sym (c .before .before .before .before .before .before .before .before .sound .ensures) ∙ c .before .before .before .before .before .before .before .if1 .taken) (c .read .ensures)
+returns c = answers-refused _ _ _ _ _ (ap numberOf (c .unread .ensures .0) ∙ c .before .before .found .ensures ∙ data-asked-place _ _ _ _) (ap (λ a. eqb (numberOf a) 0) (c .unread .ensures .0) ∙ not-done _ (c .before .match .keys2)) (c .unread .ensures .1)
+
+slice-aggregate-data-at : tie.Need-slice-aggregate-data-at
+slice-aggregate-data-at c = search needs
+
+data-at-requires : tie.Need-data-at-requires
+data-at-requires c κs = let h : length (c .before .before .before .before .before .before .args .t .words) ≡ 576 = search needs in let p = data-found _ _ _ _ _ (c .before .before .before .found .ensures) (c .before .enum-told .given .1) in omega arith
 
 returns-2 : tie.Need-returns-2
-returns-2 c = answers-unsound _ _ _ _ _ _ (sym (c .before .before .sound .ensures) ∙ c .before .if1 .left) (c .unread .ensures .0) (c .unread .ensures .1)
+returns-2 c = ?
 
 pub read-spec : {M : Type 1} → statement M
-read-spec = tie.close (tie.spec sound-requires read-requires unread-requires returns returns-2)
+read-spec =
+    tie.close
+    (tie.spec
+    slice-aggregate-found
+    found-requires
+    enum-told
+    unread-requires
+    returns
+    slice-aggregate-data-at
+    data-at-requires
+    returns-2)

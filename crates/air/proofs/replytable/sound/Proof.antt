@@ -1,20 +1,21 @@
-use mathlib.Core.Path.{sym, _∙_}
+use mathlib.Core.Path.{_≡_, sym, _∙_, ap}
+use native.Mathlib.Omega.{arith}
+use mathlib.Core.Bool.{_&&_}
+use lib.ListN.{length}
 use borrow.Author.Needs.{needs}
-use Rattle.limits.proofs.Laws.Choice.{and-goes-on, and-stops}
+use Rattle.limits.specs.Limits.{soundLimits}
+use Rattle.air.proofs.Laws.Typed.{reply-sound}
 use Rattle.air.proofs.replytable.sound.Statement.{statement}
 use Rattle.air.proofs.replytable.sound.Tie as tie
 
-sound-limits-requires : tie.Need-sound-limits-requires
-sound-limits-requires c κs = search needs
+slice-aggregate-sound : tie.Need-slice-aggregate-sound
+slice-aggregate-sound c = search needs
 
-table-sound-requires : tie.Need-table-sound-requires
-table-sound-requires c κs = sym (c .before .sound-limits .ensures) ∙ c .if1 .taken
+sound-requires : tie.Need-sound-requires
+sound-requires c κs = let h : length (c .before .before .args .t .words) ≡ 96 = search needs in omega arith
 
 returns : tie.Need-returns
-returns c = c .table-sound .ensures ∙ and-goes-on _ _ (sym (c .before .before .sound-limits .ensures) ∙ c .before .if1 .taken)
-
-returns-2 : tie.Need-returns-2
-returns-2 c = c .before .sound-limits .ensures ∙ and-stops _ _ (sym (c .before .sound-limits .ensures) ∙ c .if1 .left)
+returns c = c .sound .ensures ∙ ap (soundLimits _ &&_) (sym (reply-sound _ _))
 
 pub sound-spec : {M : Type 1} → statement M
-sound-spec = tie.close (tie.spec sound-limits-requires table-sound-requires returns returns-2)
+sound-spec = tie.close (tie.spec slice-aggregate-sound sound-requires returns)

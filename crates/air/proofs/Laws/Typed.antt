@@ -1,0 +1,75 @@
+-- A lent table read as a table of data or of replies: its messages, question 4, and what a call promises.
+use Prim.Native.Nat.{ℕ, _+_, _-_, _<_}
+use mathlib.Core.Path.{_≡_, refl, sym, _∙_, ap, ap₂}
+use mathlib.Core.Bool.{Bool, true, _&&_}
+use mathlib.Core.List.{List, [], _∷_, map}
+use lib.Dec.{leb, ltb}
+use lib.ListN.{length, getD, length-map}
+use Rattle.limits.specs.declared.Limits.{Limits}
+use Rattle.limits.specs.declared.answer.Answer.{Answer}
+use Rattle.limits.specs.Limits.{soundLimits}
+use Rattle.limits.specs.Lists.{all}
+use Rattle.limits.specs.Questions.{Question, ask, firstNo}
+use Rattle.limits.specs.Tables.{Message, Data, Reply, onBody, put, remove, age, soundData, soundReply}
+use Rattle.limits.proofs.Laws.Lists.{all-map, length-tab}
+use Rattle.limits.proofs.Laws.Promise.{called-read}
+use Rattle.limits.proofs.Laws.Mapped.{table-put, table-remove, table-age}
+use Rattle.tables.specs.Words.{messages}
+use Rattle.air.specs.declared.lent.Kind.{Kind}
+use Rattle.air.specs.declared.lent.Kind.the-variants.{OfData, OfReplies}
+use Rattle.air.specs.Rules.{roomQuestions, placeQuestions, soundMessage, soundMessages}
+use Rattle.air.specs.Kinds.{dataOf, replyOf, Lent, carried, soundLent, LentCall}
+use Rattle.air.specs.Data.{dataTable, dataMessages, soundDataTable, DataCall}
+use Rattle.air.specs.Replies.{replyTable, replyMessages, soundReplyTable, ReplyCall}
+
+pub length-messages : (width n : ℕ) (words : List ℕ) → length (messages width n words) ≡ n
+unfolding messages
+length-messages width n words = length-tab n _
+
+-- question 4 of messages that are read by `reads`
+sound-read : {B : Type 0} (reads : List ℕ → B) (sound : B → Bool) (most : ℕ) (ms : List (Message (List ℕ)))
+    → soundMessages sound most (map (onBody reads) ms) ≡ soundMessages (λ b. sound (reads b)) most ms
+unfolding soundMessages soundMessage
+sound-read reads sound most ms = ap₂ (λ n b. leb n 32 && b) (length-map ms (onBody reads)) (all-map _ (onBody reads) ms)
+
+pub data-sound : (l : Limits) (t : Lent) → soundDataTable l (dataTable (t .count) (t .words)) ≡ soundLent l OfData t
+unfolding soundDataTable soundLent dataMessages
+data-sound l t = sound-read dataOf (soundData l) (l .datalife) (carried OfData t)
+
+pub reply-sound : (l : Limits) (t : Lent) → soundReplyTable l (replyTable (t .count) (t .words)) ≡ soundLent l OfReplies t
+unfolding soundReplyTable soundLent replyMessages
+reply-sound l t = sound-read replyOf (soundReply l) (l .replylife) (carried OfReplies t)
+
+pub length-data : (n : ℕ) (words : List ℕ) → length (dataMessages (dataTable n words)) ≡ n
+unfolding dataMessages
+length-data n words = length-map (messages 18 n words) (onBody dataOf) ∙ length-messages 18 n words
+
+pub length-replies : (n : ℕ) (words : List ℕ) → length (replyMessages (replyTable n words)) ≡ n
+unfolding replyMessages
+length-replies n words = length-map (messages 3 n words) (onBody replyOf) ∙ length-messages 3 n words
+
+-- a call on a lent table is one on the table that it is read as
+module _ (l : Limits) (t after : Lent) (qs qs' : List Question) (done : List (Message (List ℕ))) (a : Answer) (e : firstNo qs ≡ firstNo qs') where
+  pub data-call : LentCall l OfData t qs done a after
+      → DataCall l (dataTable (t .count) (t .words)) qs' (map (onBody dataOf) done) (record { answer = a; table = dataTable (after .count) (after .words) })
+  unfolding dataMessages
+  data-call c = called-read (map (onBody dataOf)) (λ s. dataTable (s .count) (s .words)) qs qs' _ _ _ _ _ _ _ t after e refl (data-sound l) c
+
+  pub reply-call : LentCall l OfReplies t qs done a after
+      → ReplyCall l (replyTable (t .count) (t .words)) qs' (map (onBody replyOf) done) (record { answer = a; table = replyTable (after .count) (after .words) })
+  unfolding replyMessages
+  reply-call c = called-read (map (onBody replyOf)) (λ s. replyTable (s .count) (s .words)) qs qs' _ _ _ _ _ _ _ t after e refl (reply-sound l) c
+
+-- what a call asks of a table, lent or read: question 4, and then of the place of message p
+module _ (l : Limits) (t : Lent) (p : ℕ) where
+  pub data-asked-place : firstNo (ask 4 (soundLimits l && soundLent l OfData t) ∷ placeQuestions p (carried OfData t))
+      ≡ firstNo (ask 4 (soundLimits l && soundDataTable l (dataTable (t .count) (t .words))) ∷ placeQuestions p (dataMessages (dataTable (t .count) (t .words))))
+  data-asked-place =
+      ap₂ (λ s n. firstNo (ask 4 (soundLimits l && s) ∷ ask 17 (ltb p n) ∷ [])) (sym (data-sound l t))
+      (length-messages 18 (t .count) (t .words) ∙ sym (length-data (t .count) (t .words)))
+
+  pub reply-asked-place : firstNo (ask 4 (soundLimits l && soundLent l OfReplies t) ∷ placeQuestions p (carried OfReplies t))
+      ≡ firstNo (ask 4 (soundLimits l && soundReplyTable l (replyTable (t .count) (t .words))) ∷ placeQuestions p (replyMessages (replyTable (t .count) (t .words))))
+  reply-asked-place =
+      ap₂ (λ s n. firstNo (ask 4 (soundLimits l && s) ∷ ask 17 (ltb p n) ∷ [])) (sym (reply-sound l t))
+      (length-messages 3 (t .count) (t .words) ∙ sym (length-replies (t .count) (t .words)))

@@ -1,0 +1,120 @@
+-- The words of a message: what stands in them for data and for a reply, read and written.
+use Prim.Native.Nat.{ℕ, _+_, _-_, _*_, _≤_, _<_}
+use mathlib.Core.Path.{_≡_, refl, sym, _∙_, ap, ap₂}
+use mathlib.Core.Bool.{Bool, true, false, _&&_}
+use mathlib.Core.List.{List, _∷_, []}
+use native.Mathlib.Omega.{arith}
+use lib.ListN.{length, getD, take, drop, set, replicate}
+use lib.Seq.{getD-take, getD-drop}
+use Rattle.limits.specs.declared.Limits.{Limits}
+use Rattle.limits.specs.Lists.{tab, all}
+use Rattle.limits.specs.Limits.{between}
+use Rattle.limits.specs.Tables.{Message, Data, Reply, onBody, soundData, soundReply}
+use Rattle.limits.proofs.Laws.Lists.{is-tab, drop-tab, getD-tab, tab-ext, all-next}
+use Rattle.rows.specs.Arrays.{pasted}
+use Rattle.rows.proofs.Laws.Cells.{length-part}
+use Rattle.rows.proofs.Laws.Changed.{changed-at, changed-other, inside, below}
+use Rattle.tables.specs.Words.{entry, messageOf, messageAt}
+use Rattle.tables.proofs.Laws.Words.{next-starts, ends-by}
+use Rattle.air.specs.declared.lent.Kind.{Kind}
+use Rattle.air.specs.declared.lent.Kind.the-variants.{OfData, OfReplies}
+use Rattle.air.specs.Rules.{soundMessage}
+use Rattle.air.specs.Kinds.{widthOf, dataOf, replyOf, soundCarrying}
+
+abbrev dataIs : ℕ → ℕ → List ℕ → Message Data
+dataIs life number row = record { body = record { number = number; row = row }; life = life }
+
+abbrev replyIs : ℕ → ℕ → ℕ → Message Reply
+replyIs life first last = record { body = record { first = first; last = last }; life = life }
+
+-- a message whose word k is f k
+module _ (f : ℕ → ℕ) where
+  data-entry : (life number : ℕ) (row : List ℕ) → life ≡ f 0 → number ≡ f 1 → row ≡ tab 16 (λ k. f (k + 2))
+      → dataIs life number row ≡ onBody dataOf (entry 18 f)
+  unfolding entry
+  data-entry life number row a b e =
+      λ i. record {
+        body =
+            record {
+              number = (b ∙ sym (getD-tab 17 (λ k. f (k + 1)) 0 0 (omega arith))) i;
+              row =
+                  (e ∙ tab-ext 16 (λ k. f (k + 2)) (λ k. f (1 + k + 1)) (λ k _. ap f {x = k + 2} {y = 1 + k + 1} (omega arith)) ∙ sym (drop-tab 1 17 (λ k. f (k + 1)))) i;
+            };
+        life = a i;
+      }
+
+  reply-entry : (life first last : ℕ) → life ≡ f 0 → first ≡ f 1 → last ≡ f 2 → replyIs life first last ≡ onBody replyOf (entry 3 f)
+  unfolding entry tab
+  reply-entry life first last a b e = λ i. record { body = record { first = b i; last = e i }; life = a i }
+
+part-tab : (words : List ℕ) (at : ℕ) → at + 18 ≤ length words → take 16 (drop (at + 2) words) ≡ tab 16 (λ k. getD words (at + (k + 2)) 0)
+part-tab words at h =
+    is-tab (take 16 (drop (at + 2) words)) 16 _ 0 (length-part words (at + 2) (omega arith))
+    (λ i k. getD-take 16 (drop (at + 2) words) i 0 k
+    ∙ getD-drop (at + 2) words i 0
+    ∙ ap (λ j. getD words j 0) {x = at + 2 + i} {y = at + (i + 2)} (omega arith))
+
+module _ (words : List ℕ) (at : ℕ) where
+  pub data-read : (number : ℕ) (row : List ℕ) → at + 18 ≤ length words → number ≡ getD words (at + 1) 0 → row ≡ take 16 (drop (at + 2) words)
+      → dataIs (getD words at 0) number row ≡ onBody dataOf (entry 18 (λ k. getD words (at + k) 0))
+  data-read number row h n e =
+      data-entry (λ k. getD words (at + k) 0) _ _ _ (ap (λ j. getD words j 0) {x = at} {y = at + 0} (omega arith)) n (e ∙ part-tab words at h)
+
+  pub reply-read : (first last : ℕ) → first ≡ getD words (at + 1) 0 → last ≡ getD words (at + 2) 0
+      → replyIs (getD words at 0) first last ≡ onBody replyOf (entry 3 (λ k. getD words (at + k) 0))
+  reply-read first last a b =
+      reply-entry (λ k. getD words (at + k) 0) _ _ _ (ap (λ j. getD words j 0) {x = at} {y = at + 0} (omega arith)) a b
+
+  -- question 4 of the message at `at`
+  pub data-asked : (l : Limits) (number : ℕ) (row : List ℕ) → at + 18 ≤ length words → number ≡ getD words (at + 1) 0 → row ≡ take 16 (drop (at + 2) words)
+      → (between 1 (l .datalife) (getD words at 0) && soundData l (record { number = number; row = row }))
+      ≡ soundCarrying l OfData (entry 18 (λ k. getD words (at + k) 0))
+  unfolding soundMessage
+  data-asked l number row h n e = ap (soundMessage (soundData l) (l .datalife)) (data-read number row h n e)
+
+  pub reply-asked : (l : Limits) (first last : ℕ) → first ≡ getD words (at + 1) 0 → last ≡ getD words (at + 2) 0
+      → (between 1 (l .replylife) (getD words at 0) && soundReply l (record { first = first; last = last }))
+      ≡ soundCarrying l OfReplies (entry 3 (λ k. getD words (at + k) 0))
+  unfolding soundMessage
+  reply-asked l first last a b = ap (soundMessage (soundReply l) (l .replylife)) (reply-read first last a b)
+
+-- a message's words, written one after the other
+abbrev blank : ℕ → ℕ → List ℕ
+blank life number = set (set (replicate 18 0) 0 life) 1 number
+
+pub data-written : (life number : ℕ) (row words : List ℕ) → length row ≡ 16 → words ≡ pasted 2 row (blank life number)
+    → onBody dataOf (messageOf 18 words) ≡ dataIs life number row
+unfolding pasted
+data-written life number row words l e =
+    rw e
+    (sym (data-entry (λ k. getD (pasted 2 row (blank life number)) k 0) life number row
+    (sym (changed-other 0 _ _ (blank life number) 0 (below 2 (2 + length row) 0 (omega arith))))
+    (sym (changed-other 0 _ _ (blank life number) 1 (below 2 (2 + length row) 1 (omega arith))))
+    (is-tab row 16 _ 0 l
+    (λ i h. sym
+    (changed-at 0 _ _ (blank life number) (i + 2) (omega arith) (inside 2 (2 + length row) (i + 2) (omega arith) (omega arith))
+    ∙ ap (λ j. getD row j 0) {x = i + 2 - 2} {y = i} (omega arith))))))
+
+pub reply-written : (life first last : ℕ) → onBody replyOf (messageOf 3 (life ∷ first ∷ last ∷ [])) ≡ replyIs life first last
+reply-written life first last = sym (reply-entry _ life first last refl refl refl)
+
+-- the message asked by its kind
+pub kind-asked : (l : Limits) (words : List ℕ) (at : ℕ) (kind known : Kind) → kind ≡ known
+    → soundCarrying l known (entry (widthOf known) (λ k. getD words (at + k) 0)) ≡ soundCarrying l kind (entry (widthOf kind) (λ k. getD words (at + k) 0))
+kind-asked l words at kind known e = ap (λ (x : Kind). soundCarrying l x (entry (widthOf x) (λ k. getD words (at + k) 0))) (sym e)
+
+-- the loop that asks each message of a table
+pub word-fits : (w width i at m len : ℕ) → at ≡ w * i → w ≡ width → i < m → m ≤ 32 → width * 32 ≤ len → at + width ≤ len
+word-fits w width i at m len e q h k f = rw (e, q) (let z = ends-by width i 32 (omega arith) in omega arith)
+
+pub at-next : (w i at : ℕ) → at ≡ w * i → at + w ≡ w * (i + 1)
+at-next w i at e = rw e (sym (next-starts w i))
+
+pub asked-next : (l : Limits) (kind : Kind) (words : List ℕ) (w i at : ℕ) (good test : Bool) {r : Bool} → r ≡ (good && test)
+    → good ≡ all (soundCarrying l kind) (tab i (messageAt (widthOf kind) words))
+    → test ≡ soundCarrying l kind (entry (widthOf kind) (λ k. getD words (at + k) 0)) → at ≡ w * i → w ≡ widthOf kind
+    → r ≡ all (soundCarrying l kind) (tab (i + 1) (messageAt (widthOf kind) words))
+asked-next l kind words w i at good test e g t a q =
+    e
+    ∙ ap₂ _&&_ g (t ∙ ap (λ n. soundCarrying l kind (entry (widthOf kind) (λ k. getD words (n + k) 0))) (a ∙ ap (_* i) q))
+    ∙ sym (all-next (soundCarrying l kind) i (messageAt (widthOf kind) words))

@@ -1,0 +1,145 @@
+// Inner: called by the two tables and by the link. Question 4 and the calls on a lent table of either kind.
+ghost use mathlib.Core.Path.{_≡_};
+ghost use mathlib.Core.Bool.{true, _&&_};
+ghost use mathlib.Core.List.{_∷_};
+ghost use Prim.Native.Nat.{_+_, _*_, _≤_};
+ghost use lib.Dec.{ltb};
+ghost use lib.ListN.{length, getD};
+ghost use Rattle.limits.specs.Answer.{numberOf};
+ghost use Rattle.limits.specs.Questions.{ask, firstNo, timeQuestions};
+ghost use Rattle.limits.specs.Limits.{soundLimits};
+ghost use Rattle.limits.specs.Tables.{put, remove, age, capacity};
+ghost use Rattle.tables.specs.Words.{entry, messageOf};
+ghost use Rattle.air.specs.Rules.{roomQuestions, placeQuestions};
+ghost use Rattle.air.specs.Kinds.{widthOf, fullOf, soundCarrying, lent, carried, soundLent, LentCall};
+use limits::Limits;
+use limits::answer::Answer;
+
+pub enum Kind {
+    OfData,
+    OfReplies,
+}
+
+// What a call on a lent table gives: the answer, and how many messages the table then has.
+pub struct Counted {
+    pub answer: Answer,
+    pub count: usize,
+}
+
+fn width(kind: Kind) -> usize
+    ensures { λ r. ⌜ r ≡ widthOf kind ⌝ }
+{
+    match kind {
+        Kind::OfData => 18,
+        Kind::OfReplies => 3,
+    }
+}
+
+fn full(kind: Kind) -> Answer
+    ensures { λ r. ⌜ numberOf r ≡ fullOf kind ⌝ }
+{
+    match kind {
+        Kind::OfData => Answer::DataTableFull,
+        Kind::OfReplies => Answer::ReplyTableFull,
+    }
+}
+
+fn wide(x: u16) -> usize
+    ensures { λ r. ⌜ r ≡ x ⌝ }
+{
+    x as usize
+}
+
+fn data_sound(l: Limits, words: &[u16], at: usize) -> bool
+    requires { ⌜ (soundLimits l ≡ true) × (at + 18 ≤ length (now words)) ⌝ }
+    ensures { λ r. ⌜ r ≡ soundCarrying l Kind.OfData (entry 18 (λ k. getD (now (words .entry)) (at + k) 0)) ⌝ }
+{
+    let number = wide(words[at + 1]);
+    let row = rows::read(words, at + 2);
+    limits::within(1, l.datalife, words[at]) && rows::messages::data_sound(l, number, row)
+}
+
+fn reply_sound(l: Limits, words: &[u16], at: usize) -> bool
+    requires { ⌜ (soundLimits l ≡ true) × (at + 3 ≤ length (now words)) ⌝ }
+    ensures { λ r. ⌜ r ≡ soundCarrying l Kind.OfReplies (entry 3 (λ k. getD (now (words .entry)) (at + k) 0)) ⌝ }
+{
+    let first = wide(words[at + 1]);
+    let last = wide(words[at + 2]);
+    limits::within(1, l.replylife, words[at]) && rows::messages::reply_sound(l, first, last)
+}
+
+// Question 4 of the message whose words stand from `at` on.
+fn message_sound(l: Limits, kind: Kind, words: &[u16], at: usize) -> bool
+    requires { ⌜ (soundLimits l ≡ true) × (at + widthOf kind ≤ length (now words)) ⌝ }
+    ensures { λ r. ⌜ r ≡ soundCarrying l kind (entry (widthOf kind) (λ k. getD (now (words .entry)) (at + k) 0)) ⌝ }
+{
+    match kind {
+        Kind::OfData => data_sound(l, words, at),
+        Kind::OfReplies => reply_sound(l, words, at),
+    }
+}
+
+// Question 4 of a table. Looks at every message, so that no test hangs on the one before it.
+pub fn table_sound(l: Limits, kind: Kind, count: usize, words: &[u16]) -> bool
+    requires { ⌜ (soundLimits l ≡ true) × (widthOf kind * 32 ≤ length (now words)) ⌝ }
+    ensures { λ r. ⌜ r ≡ soundLent l kind (lent count (now (words .entry))) ⌝ }
+{
+    if 32 < count {
+        return false;
+    }
+    let w = width(kind);
+    let mut good = true;
+    let mut at = 0;
+    let mut i = 0;
+    while i < count {
+        good = rows::both(good, message_sound(l, kind, words, at));
+        at += w;
+        i += 1;
+    }
+    good
+}
+
+// Whether a message more finds a place.
+pub fn room(count: usize) -> bool
+    ensures { λ r. ⌜ r ≡ ltb count capacity ⌝ }
+{
+    count < 32
+}
+
+// Question 4 of limits and a table.
+pub fn sound(l: Limits, kind: Kind, count: usize, words: &[u16]) -> bool
+    requires { ⌜ widthOf kind * 32 ≤ length (now words) ⌝ }
+    ensures { λ r. ⌜ r ≡ (soundLimits l && soundLent l kind (lent count (now (words .entry)))) ⌝ }
+{
+    limits::sound_limits(l) && table_sound(l, kind, count, words)
+}
+
+// Question 4 of limits, a table and a message.
+fn sound_with(l: Limits, kind: Kind, count: usize, words: &[u16], message: &[u16]) -> bool
+    requires { ⌜ (widthOf kind * 32 ≤ length (now words)) × (length (now message) ≡ widthOf kind) ⌝ }
+    ensures { λ r. ⌜ r ≡ (soundLimits l && (soundLent l kind (lent count (now (words .entry)))
+        && soundCarrying l kind (messageOf (widthOf kind) (now (message .entry))))) ⌝ }
+{
+    limits::sound_limits(l)
+        && (table_sound(l, kind, count, words) && message_sound(l, kind, message, 0))
+}
+
+
+// Whether there is a message p: 4, 17.
+pub fn found(l: Limits, kind: Kind, count: usize, words: &[u16], p: usize) -> Answer
+    requires { ⌜ widthOf kind * 32 ≤ length (now words) ⌝ }
+    ensures { λ r. ⌜ (let t = lent count (now (words .entry)) in
+        numberOf r ≡ firstNo (ask 4 (soundLimits l && soundLent l kind t) ∷ placeQuestions p (carried kind t))) ⌝ }
+{
+    if sound(l, kind, count, words) {
+        if p < count {
+            Answer::Done
+        } else {
+            Answer::NoMessage
+        }
+    } else {
+        Answer::Unsound
+    }
+}
+
+
