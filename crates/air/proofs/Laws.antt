@@ -1,4 +1,5 @@
 pub mod Sound
 pub mod Typed
 pub mod Words
+pub mod Asked
 pub mod Fresh

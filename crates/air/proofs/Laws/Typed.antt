@@ -1,5 +1,7 @@
 -- A lent table read as a table of data or of replies: its messages, question 4, and what a call promises.
-use Prim.Native.Nat.{ℕ, _+_, _-_, _<_}
+use Prim.Native.Nat.{ℕ, _≤_, _<_}
+use native.Mathlib.Omega.{arith}
+use borrow.Author.Tests.{ltb-true}
 use mathlib.Core.Path.{_≡_, refl, sym, _∙_, ap, ap₂}
 use mathlib.Core.Bool.{Bool, true, _&&_}
 use mathlib.Core.List.{List, [], _∷_, map}
@@ -8,19 +10,23 @@ use lib.ListN.{length, getD, length-map}
 use Rattle.limits.specs.declared.Limits.{Limits}
 use Rattle.limits.specs.declared.answer.Answer.{Answer}
 use Rattle.limits.specs.Limits.{soundLimits}
-use Rattle.limits.specs.Lists.{all}
+use Rattle.limits.specs.Lists.{tab, all}
 use Rattle.limits.specs.Questions.{Question, ask, firstNo}
 use Rattle.limits.specs.Tables.{Message, Data, Reply, onBody, put, remove, age, soundData, soundReply}
-use Rattle.limits.proofs.Laws.Lists.{all-map, length-tab}
+use Rattle.limits.proofs.Laws.Lists.{all-map, length-tab, getD-tab}
 use Rattle.limits.proofs.Laws.Promise.{called-read}
-use Rattle.limits.proofs.Laws.Mapped.{table-put, table-remove, table-age}
-use Rattle.tables.specs.Words.{messages}
+use Rattle.limits.proofs.Laws.Mapped.{table-at}
+use Rattle.limits.proofs.Laws.Choice.{and-right}
+use Rattle.limits.proofs.Laws.Questions.{each}
+use Rattle.air.proofs.Laws.Sound.{sound-few}
+use Rattle.limits.specs.Answer.{numberOf}
+use Rattle.tables.specs.Words.{messageAt, messages}
 use Rattle.air.specs.declared.lent.Kind.{Kind}
 use Rattle.air.specs.declared.lent.Kind.the-variants.{OfData, OfReplies}
 use Rattle.air.specs.Rules.{roomQuestions, placeQuestions, soundMessage, soundMessages}
-use Rattle.air.specs.Kinds.{dataOf, replyOf, Lent, carried, soundLent, LentCall}
-use Rattle.air.specs.Data.{dataTable, dataMessages, soundDataTable, DataCall}
-use Rattle.air.specs.Replies.{replyTable, replyMessages, soundReplyTable, ReplyCall}
+use Rattle.air.specs.Kinds.{widthOf, lifeOf, dataOf, replyOf, soundWords, Lent, lent, carried, soundLent, LentCall}
+use Rattle.air.specs.Data.{dataTable, dataMessages, noData, soundDataTable, DataCall}
+use Rattle.air.specs.Replies.{replyTable, replyMessages, noReply, soundReplyTable, ReplyCall}
 
 pub length-messages : (width n : ℕ) (words : List ℕ) → length (messages width n words) ≡ n
 unfolding messages
@@ -73,3 +79,30 @@ module _ (l : Limits) (t : Lent) (p : ℕ) where
   reply-asked-place =
       ap₂ (λ s n. firstNo (ask 4 (soundLimits l && s) ∷ ask 17 (ltb p n) ∷ [])) (sym (reply-sound l t))
       (length-messages 3 (t .count) (t .words) ∙ sym (length-replies (t .count) (t .words)))
+
+-- a message that was found
+pub found-below : (l : Limits) (kind : Kind) (n : ℕ) (words : List ℕ) (p : ℕ) (a : Answer)
+    → numberOf a ≡ firstNo (ask 4 (soundLimits l && soundLent l kind (lent n words)) ∷ placeQuestions p (carried kind (lent n words)))
+    → numberOf a ≡ 0 → (p < n) × (n ≤ 32)
+unfolding all soundLent
+found-below l kind n words p a e z =
+    let passed = each (ask 4 (soundLimits l && soundLent l kind (lent n words)) ∷ placeQuestions p (carried kind (lent n words))) refl (sym e ∙ z) in
+    let few = sound-few (soundWords l kind) (lifeOf l kind) (carried kind (lent n words)) (and-right (soundLimits l) _ (passed .0)) in
+    let long = length-messages (widthOf kind) n words in
+    let here = ltb-true p (length (carried kind (lent n words))) (passed .1 .0) in
+    (omega arith, omega arith)
+
+-- message p of the table that is read
+pub data-at : (n : ℕ) (words : List ℕ) (p : ℕ) → p < n → onBody dataOf (messageAt 18 words p) ≡ getD (dataMessages (dataTable n words)) p noData
+unfolding dataMessages messages
+data-at n words p h =
+    sym
+    (table-at (onBody dataOf) (tab n (messageAt 18 words)) p (messageAt 18 words p) noData (let l = length-tab n (messageAt 18 words) in omega arith)
+    ∙ ap (onBody dataOf) (getD-tab n (messageAt 18 words) p _ h))
+
+pub reply-at : (n : ℕ) (words : List ℕ) (p : ℕ) → p < n → onBody replyOf (messageAt 3 words p) ≡ getD (replyMessages (replyTable n words)) p noReply
+unfolding replyMessages messages
+reply-at n words p h =
+    sym
+    (table-at (onBody replyOf) (tab n (messageAt 3 words)) p (messageAt 3 words p) noReply (let l = length-tab n (messageAt 3 words) in omega arith)
+    ∙ ap (onBody replyOf) (getD-tab n (messageAt 3 words) p _ h))

@@ -1,3 +1,4 @@
+use Rattle.air.specs.Kinds.{lent}
 use mathlib.Core.Path.{_≡_, sym, _∙_, ap}
 use native.Mathlib.Omega.{arith}
 use mathlib.Core.Bool.{_&&_}
@@ -15,7 +16,7 @@ sound-requires : tie.Need-sound-requires
 sound-requires c κs = let h : length (c .before .before .args .t .words) ≡ 576 = search needs in omega arith
 
 returns : tie.Need-returns
-returns c = c .sound .ensures ∙ ap (soundLimits _ &&_) (sym (data-sound _ _))
+returns c = c .sound .ensures ∙ ap (soundLimits (c .before .before .before .args .l) &&_) (sym (data-sound (c .before .before .before .args .l) (lent (c .before .before .before .args .t .count) (c .before .before .before .args .t .words))))
 
 pub sound-spec : {M : Type 1} → statement M
 sound-spec = tie.close (tie.spec slice-aggregate-sound sound-requires returns)
