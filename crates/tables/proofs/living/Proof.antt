@@ -1,61 +1,55 @@
+use Prim.Native.Nat.{_*_, _-_, _≤_}
+use mathlib.Core.Path.{_≡_, refl}
+use native.Mathlib.Omega.{arith}
+use Rattle.tables.proofs.Laws.Words.{starts-by, ends-by, next-starts, Living, living-start, living-turn, living-end}
 use Rattle.tables.proofs.living.Statement.{statement}
 use Rattle.tables.proofs.living.Tie as tie
-use Rattle.tables.proofs.living.Reads as reads
-use Rattle.tables.proofs.living.Lts as lts
 
 abbrev Inv-loop : tie.InvT-loop
-Inv-loop words width from count at₀ i₀ at i = ?
+Inv-loop words width from count at₀ i₀ at i = (from ≤ i) × (i ≤ count) × (at ≡ width * i) × Living width from i words
 
 abbrev μ-loop : tie.MeasureT-loop
-μ-loop words width from count at₀ i₀ at i = ?
+μ-loop words width from count at₀ i₀ at i = count - i
 
--- src/lib.rt:48:18
 mul-at : tie.Need-mul-at Inv-loop μ-loop
-mul-at c = ?
+mul-at c = let e = starts-by (c .args .width) (c .args .from) (c .args .count) (c .pre .1) in omega arith
 
--- src/lib.rt:50:5
 loop-holds : tie.Need-loop-holds Inv-loop μ-loop
-loop-holds c = ?
+loop-holds c = (omega arith, omega arith, refl, living-start _ _ _)
 
--- src/lib.rt:51:16
 mul-if1 : tie.Need-mul-if1 Inv-loop μ-loop
-mul-if1 c = ?
+mul-if1 c = let b = c .before in let e = ends-by (b .before .args .width) (b .loop .i) (b .before .args .count) (omega arith) in omega arith
 
--- src/lib.rt:51:16
 shared-slice-read-if1 : tie.Need-shared-slice-read-if1 Inv-loop μ-loop
-shared-slice-read-if1 c = ?
+shared-slice-read-if1 c = let b = c .before .before in let e = ends-by (b .before .args .width) (b .loop .i) (b .before .args .count) (omega arith) in omega arith
 
--- src/lib.rt:52:13
 add-at : tie.Need-add-at Inv-loop μ-loop
-add-at c = ?
+add-at c = let b = c .before .before .before in let e = ends-by (b .before .args .width) (b .loop .i) (b .before .args .count) (omega arith) in omega arith
 
--- src/lib.rt:53:13
 add-i : tie.Need-add-i Inv-loop μ-loop
-add-i c = ?
+add-i c = omega arith
 
--- src/lib.rt:50:5
 loop-less : tie.Need-loop-less Inv-loop μ-loop
-loop-less c = ?
+loop-less c = omega arith
 
--- src/lib.rt:50:5
 loop-again : tie.Need-loop-again Inv-loop μ-loop
-loop-again c = ?
+loop-again c =
+    let l = c .before .before .before in let n = next-starts (l .before .args .width) (l .loop .i) in
+    (omega arith, omega arith, omega arith, living-turn _ _ _ _ _ (l .loop .inv .2) (c .if1 .taken) (l .loop .inv .3))
 
--- src/lib.rt:55:20
 sub-result : tie.Need-sub-result Inv-loop μ-loop
-sub-result c = ?
+sub-result c = omega arith
 
--- src/lib.rt:55:13
 returns : tie.Need-returns Inv-loop μ-loop
-returns c = ?
+returns c =
+    let l = c .before .before .before .loop in living-end _ _ _ _ (l .i) _ (omega arith) (omega arith) (l .inv .2) (l .inv .3) (λ _. c .if1 .left)
 
--- src/lib.rt:58:5
 sub-result-2 : tie.Need-sub-result-2 Inv-loop μ-loop
-sub-result-2 c = ?
+sub-result-2 c = omega arith
 
--- src/lib.rt:44:1
 returns-2 : tie.Need-returns-2 Inv-loop μ-loop
-returns-2 c = ?
+returns-2 c =
+    let l = c .before .loop in living-end _ _ _ _ (l .i) _ (omega arith) (omega arith) (l .inv .2) (l .inv .3) (λ h. absurd (omega arith))
 
 pub living-spec : {M : Type 1} → statement M
 living-spec =

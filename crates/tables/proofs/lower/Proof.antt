@@ -40,7 +40,7 @@ loop-less : tie.Need-loop-less Inv-loop μ-loop
 loop-less c = omega arith
 
 loop-again : tie.Need-loop-again Inv-loop μ-loop
-loop-again c = 
+loop-again c =
     let l = c .before .before .before in let b = l .before .before in
     let e = ends-by (b .args .width) (l .loop .i) (b .args .count) (omega arith) in
     let n = next-starts (b .args .width) (l .loop .i) in

@@ -11,7 +11,7 @@ mul-close-2 : tie.Need-mul-close-2
 mul-close-2 c = search needs
 
 close-requires : tie.Need-close-requires
-close-requires c κs = let b = c .before .before in (ends-by (b .args .width) (b .args .p) (b .args .count) (b .pre .1), omega arith)
+close-requires c κs = let b = c .before .before in let e = ends-by (b .args .width) (b .args .p) (b .args .count) (b .pre .1) in (omega arith, omega arith)
 
 same-length : tie.Need-same-length
 same-length c = search needs
