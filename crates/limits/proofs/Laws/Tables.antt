@@ -1,14 +1,14 @@
 -- Laws on tables of messages whose elements are given by index.
 use Prim.Native.Nat.{ℕ, zero, suc, _+_, _-_, _≤_, _<_}
 use mathlib.Core.Path.{_≡_, refl, sym, _∙_, ap, ap₂}
-use mathlib.Core.List.{List, [], _∷_, _++_, append-nil}
+use mathlib.Core.List.{List, [], _∷_, _++_, append-nil, map}
 use native.Mathlib.Numerals.{add-one}
 use native.Mathlib.Omega.{arith}
 use lib.Dec.{leb}
-use borrow.Author.Tests.{le-leb, lt-leb}
+use borrow.Author.Tests.{le-leb, lt-leb, leb-true, leb-false}
 use lib.ListN.{length}
 use Rattle.limits.specs.Lists.{tab}
-use Rattle.limits.specs.Tables.{Message, put, remove, age}
+use Rattle.limits.specs.Tables.{Message, put, remove, age, aged}
 use Rattle.limits.proofs.Laws.Choice.{split, test, pick-yes, pick-no}
 use Rattle.limits.proofs.Laws.Lists.{length-tab, tab-more, tab-ext}
 
@@ -79,3 +79,29 @@ module _ {B : Type 0} (d : ℕ) where
       ∙ ap₂ (λ xs x. xs ++ (x ∷ [])) (tab-ext k g' g low ∙ e) last
       ∙ ap (age d (tab i f) ++_) (sym (pick-no _ _ _ _ (lt-leb (f i .life) d h) refl))
       ∙ sym (age-more i f)
+
+  -- the n messages from i on move to place k as they are, each with what is left of its life
+  pub age-run : (n k i : ℕ) (f g g' : ℕ → Message B) → tab k g ≡ age d (tab i f) → ((j : ℕ) → j < n → d < f (i + j) .life)
+      → ((j : ℕ) → j < k → g' j ≡ g j) → ((j : ℕ) → j < n → g' (k + j) ≡ aged d (f (i + j))) → tab (k + n) g' ≡ age d (tab (i + n) f)
+  age-run zero k i f g g' e h low run =
+      ap (λ m. tab m g') {x = k + 0} {y = k} (omega arith) ∙ tab-ext k g' g low ∙ e ∙ ap (λ m. age d (tab m f)) {x = i} {y = i + 0} (omega arith)
+  age-run (suc n) k i f g g' e h low run =
+      ap (λ m. tab m g') {x = k + suc n} {y = k + n + 1} (omega arith)
+      ∙ age-moves (k + n) (i + n) f g' g'
+      (age-run n k i f g g' e (λ j b. h j (omega arith)) low (λ j b. run j (omega arith)))
+      (h n (omega arith))
+      (λ j b. refl)
+      (run n (omega arith))
+      ∙ ap (λ m. age d (tab m f)) {x = i + n + 1} {y = i + suc n} (omega arith)
+
+  -- lives fall first, and then the messages with no life left go
+  pub age-lowered : (ms : List (Message B)) → age 0 (map (aged d) ms) ≡ age d ms
+  unfolding age
+  age-lowered [] = refl
+  age-lowered (m ∷ ms) =
+      test (leb (m .life) d)
+      (λ e. let h = leb-true (m .life) d e in pick-yes _ _ _ _ (le-leb (m .life - d) 0 (omega arith)) (age-lowered ms) ∙ sym (pick-yes _ _ _ _ e refl))
+      (λ e. let h = leb-false (m .life) d e in let z : m .life - d - 0 ≡ m .life - d = omega arith in
+      pick-no _ _ _ _ (lt-leb (m .life - d) 0 (omega arith))
+      (ap₂ (λ l xs. record { body = m .body; life = l } ∷ xs) z (age-lowered ms))
+      ∙ sym (pick-no _ _ _ _ e refl))

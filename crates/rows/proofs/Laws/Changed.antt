@@ -1,5 +1,5 @@
 -- Laws on a list that is changed at the indexes that pass a test.
-use Prim.Native.Nat.{ℕ, _+_, _≤_, _<_}
+use Prim.Native.Nat.{ℕ, _+_, _-_, _≤_, _<_}
 use mathlib.Core.Path.{_≡_, refl, sym, _∙_, ap}
 use mathlib.Core.Bool.{Bool, true, false, _&&_}
 use mathlib.Core.List.{List}
@@ -11,7 +11,7 @@ use borrow.Author.Tests.{lt-ltb, le-ltb, le-leb, lt-leb, eqb-true, eqb-false}
 use Rattle.limits.specs.Questions.{pick}
 use Rattle.limits.proofs.Laws.Choice.{pick-yes, pick-no, both, and-no-left, and-no-right, split, test}
 use Rattle.limits.proofs.Laws.Lists.{length-tab, getD-tab, is-tab}
-use Rattle.rows.specs.Arrays.{changed, from-to}
+use Rattle.rows.specs.Arrays.{changed, from-to, pasted, closed}
 
 module _ {A : Type 0} (d : A) where
   pub length-changed : (at : ℕ → Bool) (new : ℕ → A) (xs : List A) → length (changed d at new xs) ≡ length xs
@@ -83,3 +83,43 @@ module _ {A : Type 0} (d : A) (new : ℕ → A) (xs : List A) where
 
   pub range-start : (a a' : ℕ) → a' ≡ a → xs ≡ changed d (from-to a a') new xs
   range-start a a' q = rw q (sym (range-none a))
+
+-- an array into which words were copied, by index
+module _ (at : ℕ) (words xs : List ℕ) where
+  pub pasted-low : (i : ℕ) → i < at → getD (pasted at words xs) i 0 ≡ getD xs i 0
+  unfolding pasted
+  pasted-low i h = changed-other 0 _ _ xs i (below at (at + length words) i h)
+
+  pub pasted-at : (k : ℕ) → k < length words → at + length words ≤ length xs → getD (pasted at words xs) (at + k) 0 ≡ getD words k 0
+  unfolding pasted
+  pasted-at k h l =
+      changed-at 0 _ _ xs (at + k) (omega arith) (inside at (at + length words) (at + k) (omega arith) (omega arith))
+      ∙ ap (λ j. getD words j 0) {x = at + k - at} {y = k} (omega arith)
+
+-- an array in which a gap was closed, by index
+module _ (at width end : ℕ) (xs : List ℕ) where
+  pub length-closed : length (closed at width end xs) ≡ length xs
+  unfolding closed
+  length-closed = length-changed 0 _ _ xs
+
+  pub closed-low : (i : ℕ) → i < at → getD (closed at width end xs) i 0 ≡ getD xs i 0
+  unfolding closed
+  closed-low i h = changed-other 0 _ _ xs i (below at (end - width) i h)
+
+  pub closed-high : (i : ℕ) → end ≤ length xs → at ≤ i → i + width < end → getD (closed at width end xs) i 0 ≡ getD xs (i + width) 0
+  unfolding closed
+  closed-high i l h k = changed-at 0 _ _ xs i (omega arith) (inside at (end - width) i h (omega arith))
+
+  pub closed-behind : (i : ℕ) → end ≤ i + width → getD (closed at width end xs) i 0 ≡ getD xs i 0
+  unfolding closed
+  closed-behind i h = changed-other 0 _ _ xs i (above at (end - width) i (omega arith))
+
+  -- where there is no gap, nothing moves
+  pub closed-none : width ≡ 0 → xs ≡ closed at width end xs
+  unfolding closed changed
+  closed-none e =
+      is-tab xs (length xs) _ 0 refl
+      (λ i h. sym
+      (test (from-to at (end - width) i)
+      (λ q. pick-yes _ _ _ _ q (ap (λ j. getD xs j 0) {x = i + width} {y = i} (omega arith)))
+      (λ q. pick-no _ _ _ _ q refl)))

@@ -1,0 +1,79 @@
+use Prim.Native.Nat.{_+_, _*_, _-_, _≤_}
+use native.Mathlib.Omega.{arith}
+use Rattle.tables.proofs.Laws.Words.{starts-by, count-most, Gathered, gathered-start, gathered-turn, gathered-end, run-fits}
+use Rattle.tables.proofs.gather.Statement.{statement}
+use Rattle.tables.proofs.gather.Tie as tie
+
+abbrev Inv-loop : tie.InvT-loop
+Inv-loop words₀ width count kept₀ i₀ words kept i = Gathered width count i kept words₀ words
+
+abbrev μ-loop : tie.MeasureT-loop
+μ-loop words₀ width count kept₀ i₀ words kept i = count - i
+
+loop-holds : tie.Need-loop-holds Inv-loop μ-loop
+loop-holds c = gathered-start _ _ _
+
+living-requires : tie.Need-living-requires Inv-loop μ-loop
+living-requires c κs = let size = c .before .before .loop .inv .size in (omega arith, omega arith, omega arith)
+
+slide-requires : tie.Need-slide-requires Inv-loop μ-loop
+slide-requires c κs =
+    let l = c .before .before .before .before in let b = l .before .before in
+    let size = l .loop .inv .size in let few = l .loop .inv .few in
+    let m = starts-by (b .args .width) (l .loop .i + c .before .living .result) (b .args .count) (run-fits (b .args .width) (b .args .count) (l .loop .i) (c .before .living .result) (l .loop .words) (omega arith) (c .before .living .ensures)) in
+    (omega arith, omega arith, omega arith)
+
+add-kept : tie.Need-add-kept Inv-loop μ-loop
+add-kept c =
+    let l = c .before .before .before .before .before .before .before in let b = l .before .before in
+    let v = c .before .before .before .before .living in let few = l .loop .inv .few in
+    let m = count-most (b .args .width) (b .args .count) (b .pre .0) in
+    let f = run-fits (b .args .width) (b .args .count) (l .loop .i) (v .result) (l .loop .words) (omega arith) (v .ensures) in
+    omega arith
+
+add-i : tie.Need-add-i Inv-loop μ-loop
+add-i c =
+    let l = c .before .before .before .before .before .before .before in let b = l .before .before in
+    let v = c .before .before .before .before .living in let few = l .loop .inv .few in
+    let m = count-most (b .args .width) (b .args .count) (b .pre .0) in
+    let f = run-fits (b .args .width) (b .args .count) (l .loop .i) (v .result) (l .loop .words) (omega arith) (v .ensures) in
+    omega arith
+
+add-i-2 : tie.Need-add-i-2 Inv-loop μ-loop
+add-i-2 c =
+    let l = c .before .before .before .before .before .before .before in let b = l .before .before in
+    let v = c .before .before .before .before .living in let few = l .loop .inv .few in
+    let m = count-most (b .args .width) (b .args .count) (b .pre .0) in
+    let f = run-fits (b .args .width) (b .args .count) (l .loop .i) (v .result) (l .loop .words) (omega arith) (v .ensures) in
+    omega arith
+
+loop-less : tie.Need-loop-less Inv-loop μ-loop
+loop-less c = omega arith
+
+loop-again : tie.Need-loop-again Inv-loop μ-loop
+loop-again c =
+    let l = c .before .before .before .before .before .before .before in let b = l .before .before in
+    gathered-turn _ _ _ _ _ _ _ _ (b .pre .0) (omega arith) (b .pre .1) (l .loop .inv) (c .before .before .before .before .living .ensures) (c .before .before .slide .ensures)
+
+same-length : tie.Need-same-length Inv-loop μ-loop
+same-length c = c .before .loop .inv .size
+
+returns : tie.Need-returns Inv-loop μ-loop
+returns c = gathered-end _ _ _ _ _ _ (omega arith) (c .before .loop .inv)
+
+pub gather-spec : {M : Type 1} → statement M
+gather-spec =
+    tie.close
+    (tie.spec
+    Inv-loop
+    μ-loop
+    loop-holds
+    living-requires
+    slide-requires
+    add-kept
+    add-i
+    add-i-2
+    loop-less
+    loop-again
+    same-length
+    returns)
