@@ -2,4 +2,5 @@ pub mod Sound
 pub mod Typed
 pub mod Words
 pub mod Asked
+pub mod Calls
 pub mod Fresh

@@ -62,8 +62,47 @@ pub fn sound(l: Limits, t: DataTable) -> bool
     lent::sound(l, Kind::OfData, t.count, &words)
 }
 
+// A message is put at the table's end: 4, 13.
+pub fn put(l: Limits, t: DataTable, m: DataMessage) -> DataAnswer
+    ensures { λ r. ⌜ DataCall l t
+        (ask 4 (soundLimits l && (soundDataTable l t && soundDataMessage l (dataMessage m))) ∷ roomQuestions 13 (dataMessages t))
+        (put (dataMessage m) (dataMessages t)) r ⌝ }
+{
+    let mut words = t.words;
+    let message = messages::data_words(m);
+    let r = lent::put(l, Kind::OfData, t.count, &mut words, &message);
+    let answer = r.answer;
+    DataAnswer {
+        answer,
+        table: assembled(r.count, words),
+    }
+}
 
+// Message p leaves, and the gap is closed: 4, 17.
+pub fn remove(l: Limits, t: DataTable, p: usize) -> DataAnswer
+    ensures { λ r. ⌜ DataCall l t (ask 4 (soundLimits l && soundDataTable l t) ∷ placeQuestions p (dataMessages t)) (remove p (dataMessages t)) r ⌝ }
+{
+    let mut words = t.words;
+    let r = lent::remove(l, Kind::OfData, t.count, &mut words, p);
+    let answer = r.answer;
+    DataAnswer {
+        answer,
+        table: assembled(r.count, words),
+    }
+}
 
+// Lives fall by d, and messages with no life left go: 4, 9.
+pub fn tick(l: Limits, t: DataTable, d: u16) -> DataAnswer
+    ensures { λ r. ⌜ DataCall l t (ask 4 (soundLimits l && soundDataTable l t) ∷ timeQuestions d) (age d (dataMessages t)) r ⌝ }
+{
+    let mut words = t.words;
+    let r = lent::tick(l, Kind::OfData, t.count, &mut words, d);
+    let answer = r.answer;
+    DataAnswer {
+        answer,
+        table: assembled(r.count, words),
+    }
+}
 
 // An answer with a message of zeros.
 fn unread(answer: Answer) -> DataRead
@@ -71,7 +110,11 @@ fn unread(answer: Answer) -> DataRead
 {
     DataRead {
         answer,
-        message: DataMessage { number: 0, life: 0, row: [0; 16] },
+        message: DataMessage {
+            number: 0,
+            life: 0,
+            row: [0; 16],
+        },
     }
 }
 

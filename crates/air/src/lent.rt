@@ -124,6 +124,34 @@ fn sound_with(l: Limits, kind: Kind, count: usize, words: &[u16], message: &[u16
         && (table_sound(l, kind, count, words) && message_sound(l, kind, message, 0))
 }
 
+// A message is put at the table's end: 4 of limits, table and message, then 13 or 18.
+pub fn put(l: Limits, kind: Kind, count: usize, words: &mut [u16], message: &[u16]) -> Counted
+    requires { ⌜ (widthOf kind * 32 ≤ length (now words)) × (length (now message) ≡ widthOf kind) ⌝ }
+    ensures { λ r. ⌜ (let t = lent count (now (words .entry)) in let m = messageOf (widthOf kind) (now (message .entry)) in
+        LentCall l kind t
+        (ask 4 (soundLimits l && (soundLent l kind t && soundCarrying l kind m)) ∷ roomQuestions (fullOf kind) (carried kind t))
+        (put m (carried kind t)) (r .answer) (lent (r .count) (now (words .exit)))) ⌝ }
+{
+    if sound_with(l, kind, count, words, message) {
+        if room(count) {
+            tables::put(words, width(kind), count, message);
+            Counted {
+                answer: Answer::Done,
+                count: count + 1,
+            }
+        } else {
+            Counted {
+                answer: full(kind),
+                count,
+            }
+        }
+    } else {
+        Counted {
+            answer: Answer::Unsound,
+            count,
+        }
+    }
+}
 
 // Whether there is a message p: 4, 17.
 pub fn found(l: Limits, kind: Kind, count: usize, words: &[u16], p: usize) -> Answer
@@ -142,4 +170,48 @@ pub fn found(l: Limits, kind: Kind, count: usize, words: &[u16], p: usize) -> An
     }
 }
 
+// Message p leaves, and the gap is closed: 4, 17.
+pub fn remove(l: Limits, kind: Kind, count: usize, words: &mut [u16], p: usize) -> Counted
+    requires { ⌜ widthOf kind * 32 ≤ length (now words) ⌝ }
+    ensures { λ r. ⌜ (let t = lent count (now (words .entry)) in
+        LentCall l kind t (ask 4 (soundLimits l && soundLent l kind t) ∷ placeQuestions p (carried kind t))
+        (remove p (carried kind t)) (r .answer) (lent (r .count) (now (words .exit)))) ⌝ }
+{
+    let answer = found(l, kind, count, words, p);
+    let Answer::Done = answer else {
+        return Counted { answer, count };
+    };
+    tables::remove(words, width(kind), count, p);
+    Counted {
+        answer,
+        count: count - 1,
+    }
+}
 
+// Lives fall by d, and messages with no life left go: 4, 9.
+pub fn tick(l: Limits, kind: Kind, count: usize, words: &mut [u16], d: u16) -> Counted
+    requires { ⌜ widthOf kind * 32 ≤ length (now words) ⌝ }
+    ensures { λ r. ⌜ (let t = lent count (now (words .entry)) in
+        LentCall l kind t (ask 4 (soundLimits l && soundLent l kind t) ∷ timeQuestions d)
+        (age d (carried kind t)) (r .answer) (lent (r .count) (now (words .exit)))) ⌝ }
+{
+    if sound(l, kind, count, words) {
+        if 1 <= d {
+            let left = tables::age(words, width(kind), count, d);
+            Counted {
+                answer: Answer::Done,
+                count: left,
+            }
+        } else {
+            Counted {
+                answer: Answer::BadArgument,
+                count,
+            }
+        }
+    } else {
+        Counted {
+            answer: Answer::Unsound,
+            count,
+        }
+    }
+}

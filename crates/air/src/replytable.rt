@@ -62,8 +62,47 @@ pub fn sound(l: Limits, t: ReplyTable) -> bool
     lent::sound(l, Kind::OfReplies, t.count, &words)
 }
 
+// A message is put at the table's end: 4, 18.
+pub fn put(l: Limits, t: ReplyTable, m: ReplyMessage) -> ReplyAnswer
+    ensures { λ r. ⌜ ReplyCall l t
+        (ask 4 (soundLimits l && (soundReplyTable l t && soundReplyMessage l (replyMessage m))) ∷ roomQuestions 18 (replyMessages t))
+        (put (replyMessage m) (replyMessages t)) r ⌝ }
+{
+    let mut words = t.words;
+    let message = messages::reply_words(m);
+    let r = lent::put(l, Kind::OfReplies, t.count, &mut words, &message);
+    let answer = r.answer;
+    ReplyAnswer {
+        answer,
+        table: assembled(r.count, words),
+    }
+}
 
+// Message p leaves, and the gap is closed: 4, 17.
+pub fn remove(l: Limits, t: ReplyTable, p: usize) -> ReplyAnswer
+    ensures { λ r. ⌜ ReplyCall l t (ask 4 (soundLimits l && soundReplyTable l t) ∷ placeQuestions p (replyMessages t)) (remove p (replyMessages t)) r ⌝ }
+{
+    let mut words = t.words;
+    let r = lent::remove(l, Kind::OfReplies, t.count, &mut words, p);
+    let answer = r.answer;
+    ReplyAnswer {
+        answer,
+        table: assembled(r.count, words),
+    }
+}
 
+// Lives fall by d, and messages with no life left go: 4, 9.
+pub fn tick(l: Limits, t: ReplyTable, d: u16) -> ReplyAnswer
+    ensures { λ r. ⌜ ReplyCall l t (ask 4 (soundLimits l && soundReplyTable l t) ∷ timeQuestions d) (age d (replyMessages t)) r ⌝ }
+{
+    let mut words = t.words;
+    let r = lent::tick(l, Kind::OfReplies, t.count, &mut words, d);
+    let answer = r.answer;
+    ReplyAnswer {
+        answer,
+        table: assembled(r.count, words),
+    }
+}
 
 // An answer with a message of zeros.
 fn unread(answer: Answer) -> ReplyRead
@@ -71,7 +110,11 @@ fn unread(answer: Answer) -> ReplyRead
 {
     ReplyRead {
         answer,
-        message: ReplyMessage { first: 0, last: 0, life: 0 },
+        message: ReplyMessage {
+            first: 0,
+            last: 0,
+            life: 0,
+        },
     }
 }
 

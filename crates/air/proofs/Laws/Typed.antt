@@ -21,6 +21,8 @@ use Rattle.limits.proofs.Laws.Questions.{each}
 use Rattle.air.proofs.Laws.Sound.{sound-few}
 use Rattle.limits.specs.Answer.{numberOf}
 use Rattle.tables.specs.Words.{messageAt, messages}
+use Rattle.air.specs.declared.datatable.DataTable.{DataTable}
+use Rattle.air.specs.declared.replytable.ReplyTable.{ReplyTable}
 use Rattle.air.specs.declared.lent.Kind.{Kind}
 use Rattle.air.specs.declared.lent.Kind.the-variants.{OfData, OfReplies}
 use Rattle.air.specs.Rules.{roomQuestions, placeQuestions, soundMessage, soundMessages}
@@ -56,15 +58,17 @@ length-replies n words = length-map (messages 3 n words) (onBody replyOf) ∙ le
 
 -- a call on a lent table is one on the table that it is read as
 module _ (l : Limits) (t after : Lent) (qs qs' : List Question) (done : List (Message (List ℕ))) (a : Answer) (e : firstNo qs ≡ firstNo qs') where
-  pub data-call : LentCall l OfData t qs done a after
-      → DataCall l (dataTable (t .count) (t .words)) qs' (map (onBody dataOf) done) (record { answer = a; table = dataTable (after .count) (after .words) })
+  pub data-call : (done' : List (Message Data)) (table : DataTable) → map (onBody dataOf) done ≡ done' → table ≡ dataTable (after .count) (after .words)
+      → LentCall l OfData t qs done a after → DataCall l (dataTable (t .count) (t .words)) qs' done' (record { answer = a; table = table })
   unfolding dataMessages
-  data-call c = called-read (map (onBody dataOf)) (λ s. dataTable (s .count) (s .words)) qs qs' _ _ _ _ _ _ _ t after e refl (data-sound l) c
+  data-call done' table d is c =
+      rw is (called-read (map (onBody dataOf)) (λ s. dataTable (s .count) (s .words)) qs qs' _ _ _ _ _ _ _ t after e d (data-sound l) c)
 
-  pub reply-call : LentCall l OfReplies t qs done a after
-      → ReplyCall l (replyTable (t .count) (t .words)) qs' (map (onBody replyOf) done) (record { answer = a; table = replyTable (after .count) (after .words) })
+  pub reply-call : (done' : List (Message Reply)) (table : ReplyTable) → map (onBody replyOf) done ≡ done' → table ≡ replyTable (after .count) (after .words)
+      → LentCall l OfReplies t qs done a after → ReplyCall l (replyTable (t .count) (t .words)) qs' done' (record { answer = a; table = table })
   unfolding replyMessages
-  reply-call c = called-read (map (onBody replyOf)) (λ s. replyTable (s .count) (s .words)) qs qs' _ _ _ _ _ _ _ t after e refl (reply-sound l) c
+  reply-call done' table d is c =
+      rw is (called-read (map (onBody replyOf)) (λ s. replyTable (s .count) (s .words)) qs qs' _ _ _ _ _ _ _ t after e d (reply-sound l) c)
 
 -- what a call asks of a table, lent or read: question 4, and then of the place of message p
 module _ (l : Limits) (t : Lent) (p : ℕ) where

@@ -103,6 +103,15 @@ pub kind-asked : (l : Limits) (words : List ℕ) (at : ℕ) (kind known : Kind) 
     → soundCarrying l known (entry (widthOf known) (λ k. getD words (at + k) 0)) ≡ soundCarrying l kind (entry (widthOf kind) (λ k. getD words (at + k) 0))
 kind-asked l words at kind known e = ap (λ (x : Kind). soundCarrying l x (entry (widthOf x) (λ k. getD words (at + k) 0))) (sym e)
 
+-- a message handed in by itself
+pub first-asked : (l : Limits) (kind : Kind) (m : List ℕ)
+    → soundCarrying l kind (entry (widthOf kind) (λ k. getD m (0 + k) 0)) ≡ soundCarrying l kind (messageOf (widthOf kind) m)
+unfolding entry
+first-asked l kind m =
+    ap₂ (λ b v. soundCarrying l kind (record { body = b; life = v }))
+    (tab-ext (widthOf kind - 1) (λ k. getD m (0 + (k + 1)) 0) (λ k. getD m (k + 1) 0) (λ k _. ap (λ j. getD m j 0) {x = 0 + (k + 1)} {y = k + 1} (omega arith)))
+    (ap (λ j. getD m j 0) {x = 0 + 0} {y = 0} (omega arith))
+
 -- the loop that asks each message of a table
 pub word-fits : (w width i at m len : ℕ) → at ≡ w * i → w ≡ width → i < m → m ≤ 32 → width * 32 ≤ len → at + width ≤ len
 word-fits w width i at m len e q h k f = rw (e, q) (let z = ends-by width i 32 (omega arith) in omega arith)

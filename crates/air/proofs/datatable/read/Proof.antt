@@ -24,17 +24,17 @@ unread-requires : tie.Need-unread-requires
 unread-requires c κs = search needs
 
 returns : tie.Need-returns
-returns c = answers-refused _ _ _ _ _ (ap numberOf (c .unread .ensures .0) ∙ c .before .before .found .ensures ∙ data-asked-place (c .before .before .before .before .before .args .l) (lent (c .before .before .before .before .before .args .t .count) (c .before .before .before .before .before .args .t .words)) (c .before .before .before .before .before .args .p)) (ap (λ a. eqb (numberOf a) 0) (c .unread .ensures .0) ∙ not-done _ (c .before .match .keys2)) (c .unread .ensures .1)
+returns c = answers-refused _ _ _ _ _ (ap numberOf (c .unread .ensures .0) ∙ c .before .before .found .ensures ∙ data-asked-place (c .before .before .before .before .before .args .l) (lent (c .before .before .before .before .before .args .t .count) (c .before .before .before .before .before .args .t .words)) (c .before .before .before .before .before .args .p)) (ap (λ a. eqb (numberOf a) 0) (c .unread .ensures .0) ∙ not-done (c .before .before .found .result) (c .before .match .keys2)) (c .unread .ensures .1)
 
 slice-aggregate-data-at : tie.Need-slice-aggregate-data-at
 slice-aggregate-data-at c = search needs
 
 data-at-requires : tie.Need-data-at-requires
-data-at-requires c κs = let h : length (c .before .before .before .before .before .before .args .t .words) ≡ 576 = search needs in let p = found-below (c .before .before .before .before .before .before .args .l) OfData (c .before .before .before .before .before .before .args .t .count) (c .before .before .before .before .before .before .args .t .words) (c .before .before .before .before .before .before .args .p) _ (c .before .before .before .found .ensures) (ap numberOf (c .before .enum-told .given .1)) in omega arith
+data-at-requires c κs = let h : length (c .before .before .before .before .before .before .args .t .words) ≡ 576 = search needs in let p = found-below (c .before .before .before .before .before .before .args .l) OfData (c .before .before .before .before .before .before .args .t .count) (c .before .before .before .before .before .before .args .t .words) (c .before .before .before .before .before .before .args .p) (c .before .before .before .found .result) (c .before .before .before .found .ensures) (ap numberOf (c .before .enum-told .given .1)) in omega arith
 
 returns-2 : tie.Need-returns-2
 returns-2 c =
-    let p = found-below (c .before .before .before .before .before .before .before .args .l) OfData (c .before .before .before .before .before .before .before .args .t .count) (c .before .before .before .before .before .before .before .args .t .words) (c .before .before .before .before .before .before .before .args .p) _ (c .before .before .before .before .found .ensures) (ap numberOf (c .before .before .enum-told .given .1)) in
+    let p = found-below (c .before .before .before .before .before .before .before .args .l) OfData (c .before .before .before .before .before .before .before .args .t .count) (c .before .before .before .before .before .before .before .args .t .words) (c .before .before .before .before .before .before .before .args .p) (c .before .before .before .before .found .result) (c .before .before .before .before .found .ensures) (ap numberOf (c .before .before .enum-told .given .1)) in
     answers-done _ _ _ _ _ (c .before .before .before .before .found .ensures ∙ data-asked-place (c .before .before .before .before .before .before .before .args .l) (lent (c .before .before .before .before .before .before .before .args .t .count) (c .before .before .before .before .before .before .before .args .t .words)) (c .before .before .before .before .before .before .before .args .p)) (ap numberOf (c .before .before .enum-told .given .1)) (c .data-at .ensures ∙ data-at _ _ _ (p .0))
 
 pub read-spec : {M : Type 1} → statement M
