@@ -93,7 +93,7 @@ module _ (w d : ℕ) (old now : List ℕ) where
       this =
           entry-aged w d _ _
           (ap (λ j. getD (set now at v) j 0) {x = w * i + 0} {y = at} (omega arith)
-          ∙ getD-set-same now at v 0 (let l = inv .size in omega arith)
+          ∙ getD-set-same now at v 0 (omega arith)
           ∙ e
           ∙ ap (_- d) (inv .rest at (omega arith) ∙ ap (λ j. getD old j 0) {x = at} {y = w * i + 0} (omega arith)))
           (λ k b. getD-set-other now at (w * i + (k + 1)) v 0 (λ z. omega arith) ∙ inv .rest (w * i + (k + 1)) (omega arith))
@@ -170,10 +170,10 @@ module _ (w count i kept n : ℕ) (old now next : List ℕ) (some : 1 ≤ w) (le
   same p h = entry-ext w _ _ some (λ k b. let s = starts-by w i p h in inv .rest (w * p + k) (omega arith))
 
   shift : (j : ℕ) → w * (i + j) ≡ w * (kept + j) + w * (i - kept)
-  shift j = ap (w *_) {x = i + j} {y = kept + j + (i - kept)} (let few = inv .few in omega arith) ∙ mul-add w (kept + j) (i - kept)
+  shift j = ap (w *_) {x = i + j} {y = kept + j + (i - kept)} (omega arith) ∙ mul-add w (kept + j) (i - kept)
 
   room : w * (i + n) ≤ length now
-  room = let size = inv .size in let m = starts-by w (i + n) count (run-fits w count i n now (omega arith) e) in omega arith
+  room = let m = starts-by w (i + n) count (run-fits w count i n now (omega arith) e) in omega arith
 
   moved : (j : ℕ) → j < n → messageAt w next (kept + j) ≡ messageAt w now (i + j)
   moved j h =
@@ -202,7 +202,7 @@ module _ (w count i kept n : ℕ) (old now next : List ℕ) (some : 1 ≤ w) (le
   unfolding messages
   gathered-turn =
       record {
-        few = let f = inv .few in omega arith;
+        few = omega arith;
         size = ap length q ∙ length-closed (w * kept) (w * (i - kept)) (w * (i + n)) now ∙ inv .size;
         front = let most = run-fits w count i n now (omega arith) e in
             split count (i + n)

@@ -1,4 +1,4 @@
-use Prim.Native.Nat.{_+_, _*_, _-_, _≤_}
+use Prim.Native.Nat.{_+_, _-_}
 use native.Mathlib.Omega.{arith}
 use Rattle.tables.proofs.Laws.Words.{starts-by, count-most, Gathered, gathered-start, gathered-turn, gathered-end, run-fits}
 use Rattle.tables.proofs.gather.Statement.{statement}
@@ -14,19 +14,18 @@ loop-holds : tie.Need-loop-holds Inv-loop μ-loop
 loop-holds c = gathered-start _ _ _
 
 living-requires : tie.Need-living-requires Inv-loop μ-loop
-living-requires c κs = let size = c .before .before .loop .inv .size in (omega arith, omega arith, omega arith)
+living-requires c κs = (omega arith, omega arith, omega arith)
 
 slide-requires : tie.Need-slide-requires Inv-loop μ-loop
 slide-requires c κs =
-    let l = c .before .before .before .before in let b = l .before .before in
-    let size = l .loop .inv .size in let few = l .loop .inv .few in
-    let m = starts-by (b .args .width) (l .loop .i + c .before .living .result) (b .args .count) (run-fits (b .args .width) (b .args .count) (l .loop .i) (c .before .living .result) (l .loop .words) (omega arith) (c .before .living .ensures)) in
+    let l = c .before .before .before .before in let b = l .before .before in let v = c .before .living in
+    let m = starts-by (b .args .width) (l .loop .i + v .result) (b .args .count) (run-fits (b .args .width) (b .args .count) (l .loop .i) (v .result) (l .loop .words) (omega arith) (v .ensures)) in
     (omega arith, omega arith, omega arith)
 
 add-kept : tie.Need-add-kept Inv-loop μ-loop
 add-kept c =
     let l = c .before .before .before .before .before .before .before in let b = l .before .before in
-    let v = c .before .before .before .before .living in let few = l .loop .inv .few in
+    let v = c .before .before .before .before .living in
     let m = count-most (b .args .width) (b .args .count) (b .pre .0) in
     let f = run-fits (b .args .width) (b .args .count) (l .loop .i) (v .result) (l .loop .words) (omega arith) (v .ensures) in
     omega arith
@@ -34,7 +33,7 @@ add-kept c =
 add-i : tie.Need-add-i Inv-loop μ-loop
 add-i c =
     let l = c .before .before .before .before .before .before .before in let b = l .before .before in
-    let v = c .before .before .before .before .living in let few = l .loop .inv .few in
+    let v = c .before .before .before .before .living in
     let m = count-most (b .args .width) (b .args .count) (b .pre .0) in
     let f = run-fits (b .args .width) (b .args .count) (l .loop .i) (v .result) (l .loop .words) (omega arith) (v .ensures) in
     omega arith
@@ -42,7 +41,7 @@ add-i c =
 add-i-2 : tie.Need-add-i-2 Inv-loop μ-loop
 add-i-2 c =
     let l = c .before .before .before .before .before .before .before in let b = l .before .before in
-    let v = c .before .before .before .before .living in let few = l .loop .inv .few in
+    let v = c .before .before .before .before .living in
     let m = count-most (b .args .width) (b .args .count) (b .pre .0) in
     let f = run-fits (b .args .width) (b .args .count) (l .loop .i) (v .result) (l .loop .words) (omega arith) (v .ensures) in
     omega arith

@@ -1,7 +1,6 @@
 use Prim.Native.Nat.{_*_, _-_, _≤_}
 use mathlib.Core.Path.{_≡_, refl}
 use native.Mathlib.Omega.{arith}
-use borrow.Author.Needs.{needs}
 use Rattle.tables.proofs.Laws.Words.{ends-by, next-starts, Lowered, lowered-start, lowered-turn, lowered-end}
 use Rattle.tables.proofs.lower.Statement.{statement}
 use Rattle.tables.proofs.lower.Tie as tie
