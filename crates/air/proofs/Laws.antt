@@ -3,4 +3,5 @@ pub mod Typed
 pub mod Words
 pub mod Asked
 pub mod Calls
+pub mod Holds
 pub mod Fresh

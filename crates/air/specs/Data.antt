@@ -1,6 +1,7 @@
 -- The data table as a list of messages. What stands in its words beyond the count is free: it does not occur in the list.
 use Prim.Native.Nat.{ℕ}
-use mathlib.Core.Bool.{Bool}
+use mathlib.Core.Path.{_≡_}
+use mathlib.Core.Bool.{Bool, true}
 use mathlib.Core.List.{List, map}
 use lib.ListN.{getD, replicate}
 use Rattle.limits.specs.declared.Limits.{Limits}
@@ -43,3 +44,7 @@ DataCall l t questions done r = Called questions (r .answer) (dataMessages (r .t
 -- what reading message p promises
 abbrev pub DataReading : DataTable → ℕ → List Question → DataRead → Type 0
 DataReading t p questions r = Answers questions (r .answer) (dataMessage (r .message)) (getD (dataMessages t) p noData) noData
+
+-- the table is sound and holds these messages
+abbrev pub DataHolds : Limits → DataTable → List (Message Data) → Type 0
+DataHolds l t ms = (soundDataTable l t ≡ true) × (dataMessages t ≡ ms)

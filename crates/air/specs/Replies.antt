@@ -1,6 +1,7 @@
 -- The reply table as a list of messages. What stands in its words beyond the count is free: it does not occur in the list.
 use Prim.Native.Nat.{ℕ}
-use mathlib.Core.Bool.{Bool}
+use mathlib.Core.Path.{_≡_}
+use mathlib.Core.Bool.{Bool, true}
 use mathlib.Core.List.{List, map}
 use lib.ListN.{getD, replicate}
 use Rattle.limits.specs.declared.Limits.{Limits}
@@ -43,3 +44,7 @@ ReplyCall l t questions done r = Called questions (r .answer) (replyMessages (r 
 -- what reading message p promises
 abbrev pub ReplyReading : ReplyTable → ℕ → List Question → ReplyRead → Type 0
 ReplyReading t p questions r = Answers questions (r .answer) (replyMessage (r .message)) (getD (replyMessages t) p noReply) noReply
+
+-- the table is sound and holds these messages
+abbrev pub ReplyHolds : Limits → ReplyTable → List (Message Reply) → Type 0
+ReplyHolds l t ms = (soundReplyTable l t ≡ true) × (replyMessages t ≡ ms)
