@@ -60,15 +60,17 @@ pub fn fresh() -> Mat
 pub fn sound(l: Limits, m: Mat) -> bool
     ensures { λ r. ⌜ r ≡ (soundLimits l && soundMat l m) ⌝ }
 {
-    limits::sound_limits(l) && soundmat::mat_sound(l, m)
+    let marks = m.marks;
+    let timers = m.timers;
+    let cells = m.cells;
+    limits::sound_limits(l) && soundmat::mat_sound(l, m.oldest, m.next, &marks, &timers, &cells)
 }
 
 // Question 4 of limits, a mat and a message.
 fn sound_with(l: Limits, m: Mat, first: usize, last: usize) -> bool
     ensures { λ r. ⌜ r ≡ (soundLimits l && (soundMat l m && soundReply l (record { first = first; last = last }))) ⌝ }
 {
-    limits::sound_limits(l)
-        && (soundmat::mat_sound(l, m) && rows::messages::reply_sound(l, first, last))
+    sound(l, m) && rows::messages::reply_sound(l, first, last)
 }
 
 // The mat as it is, with a message of zeros.
