@@ -83,3 +83,7 @@ pub legal-part : (cells : List ℕ) (a b : ℕ)
     → all legalCell (take (16 * b - 16 * a) (drop (16 * a) cells)) ≡ all legalRow (tab (b - a) (λ i. rowAt cells (a + i)))
 legal-part cells a b =
     ap (λ k. all legalCell (take k (drop (16 * a) cells))) {x = 16 * b - 16 * a} {y = 16 * (b - a)} (omega arith) ∙ legal-rows cells a (b - a)
+
+-- one row
+pub legal-one : (cells : List ℕ) (at : ℕ) → all legalCell (take (16 * at + 16 - 16 * at) (drop (16 * at) cells)) ≡ legalRow (rowAt cells at)
+legal-one cells at = ap (λ n. all legalCell (take n (drop (16 * at) cells))) {x = 16 * at + 16 - 16 * at} {y = 16} (omega arith)

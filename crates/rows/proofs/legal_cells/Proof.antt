@@ -1,7 +1,7 @@
 use Rattle.limits.specs.Cells.{legalCell}
 use Rattle.limits.specs.Lists.{tab, all}
 use Rattle.limits.proofs.Laws.Lists.{flag-start, flag-turn, flag-end, part-tab}
-use lib.ListN.{length, getD}
+use lib.ListN.{getD}
 use mathlib.Core.Bool.{_&&_}
 use mathlib.Core.Path.{_≡_, sym, _∙_, ap}
 use Prim.Native.Nat.{_+_, _-_, _≤_}

@@ -2,7 +2,6 @@ use Rattle.limits.specs.Cells.{legalRow}
 use lib.ListN.{length}
 use lib.Seq.{take-all}
 use mathlib.Core.Path.{_≡_, _∙_, ap}
-use Prim.Native.Nat.{_≤_}
 use native.Mathlib.Omega.{arith}
 use borrow.Author.Needs.{needs}
 use Rattle.rows.proofs.legal_row.Statement.{statement}

@@ -1,7 +1,7 @@
 use mathlib.Core.Bool.{false, not}
 use Rattle.limits.specs.Lists.{tab, all}
 use Rattle.limits.proofs.Laws.Lists.{flag-start, flag-turn, flag-end}
-use lib.ListN.{length, getD}
+use lib.ListN.{getD}
 use mathlib.Core.Path.{_≡_}
 use Prim.Native.Nat.{_+_, _-_, _≤_}
 use native.Mathlib.Omega.{arith}

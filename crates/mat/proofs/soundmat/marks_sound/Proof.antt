@@ -1,6 +1,6 @@
-use Rattle.mat.proofs.Laws.Sound.{numbers, front-mark, other-marks}
+use Rattle.mat.proofs.Laws.Sound.{front-mark, other-marks}
 use Rattle.mat.specs.View.{matOf}
-use Rattle.rows.proofs.Laws.Places.{place-below, at-below}
+use Rattle.rows.proofs.Laws.Places.{at-below}
 use mathlib.Core.Bool.{not, _&&_}
 use mathlib.Core.Path.{_∙_, ap, ap₂}
 use Prim.Native.Nat.{_-_}
