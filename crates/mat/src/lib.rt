@@ -7,7 +7,7 @@ ghost use Rattle.limits.specs.Questions.{ask, timeQuestions};
 ghost use Rattle.limits.specs.Limits.{soundLimits};
 ghost use Rattle.limits.specs.Tables.{soundReply};
 ghost use Rattle.mat.specs.Rules.{sendQuestions, sending, resendQuestions, resending, acknowledgeQuestions, acknowledging, ticked};
-ghost use Rattle.mat.specs.View.{matState, freshMat, soundMat, SendCall, AcknowledgeCall, TickCall};
+ghost use Rattle.mat.specs.View.{matOf, matState, freshMat, soundMat, SendCall, AcknowledgeCall, TickCall};
 
 pub mod soundmat;
 
@@ -22,6 +22,55 @@ pub struct Mat {
     pub marks: [bool; 32],
     pub timers: [u16; 32],
     pub cells: [u16; 512],
+}
+
+// A mat's insides handed out and taken back, so that what holds a mat and lends its arrays need not know its fields.
+pub fn oldest_of(m: Mat) -> usize
+    ensures { λ r. ⌜ r ≡ m .oldest ⌝ }
+{
+    m.oldest
+}
+
+pub fn next_of(m: Mat) -> usize
+    ensures { λ r. ⌜ r ≡ m .next ⌝ }
+{
+    m.next
+}
+
+pub fn marks_of(m: Mat) -> [bool; 32]
+    ensures { λ r. ⌜ r ≡ m .marks ⌝ }
+{
+    m.marks
+}
+
+pub fn timers_of(m: Mat) -> [u16; 32]
+    ensures { λ r. ⌜ r ≡ m .timers ⌝ }
+{
+    m.timers
+}
+
+pub fn cells_of(m: Mat) -> [u16; 512]
+    ensures { λ r. ⌜ r ≡ m .cells ⌝ }
+{
+    m.cells
+}
+
+pub fn assembled(
+    oldest: usize,
+    next: usize,
+    marks: [bool; 32],
+    timers: [u16; 32],
+    cells: [u16; 512],
+) -> Mat
+    ensures { λ r. ⌜ r ≡ matOf oldest next marks timers cells ⌝ }
+{
+    Mat {
+        oldest,
+        next,
+        marks,
+        timers,
+        cells,
+    }
 }
 
 // `number` and `row` are the message to put in the data table.
@@ -47,28 +96,24 @@ pub struct Ticked {
 pub fn fresh() -> Mat
     ensures { λ r. ⌜ r ≡ freshMat ⌝ }
 {
-    Mat {
-        oldest: 0,
-        next: 0,
-        marks: [false; 32],
-        timers: [0; 32],
-        cells: [0; 512],
-    }
+    assembled(0, 0, [false; 32], [0; 32], [0; 512])
 }
 
 // Question 4 of limits and a mat.
 pub fn sound(l: Limits, m: Mat) -> bool
     ensures { λ r. ⌜ r ≡ (soundLimits l && soundMat l m) ⌝ }
 {
-    limits::sound_limits(l) && soundmat::mat_sound(l, m)
+    let marks = m.marks;
+    let timers = m.timers;
+    let cells = m.cells;
+    limits::sound_limits(l) && soundmat::mat_sound(l, m.oldest, m.next, &marks, &timers, &cells)
 }
 
 // Question 4 of limits, a mat and a message.
 fn sound_with(l: Limits, m: Mat, first: usize, last: usize) -> bool
     ensures { λ r. ⌜ r ≡ (soundLimits l && (soundMat l m && soundReply l (record { first = first; last = last }))) ⌝ }
 {
-    limits::sound_limits(l)
-        && (soundmat::mat_sound(l, m) && rows::messages::reply_sound(l, first, last))
+    sound(l, m) && rows::messages::reply_sound(l, first, last)
 }
 
 // The mat as it is, with a message of zeros.
@@ -101,13 +146,7 @@ pub fn send(l: Limits, m: Mat, supply: &[u16]) -> Sent
         let mut timers = m.timers;
         let mut cells = m.cells;
         let next = soundmat::keep(l, number, &mut timers, &mut cells, row);
-        let mat = Mat {
-            oldest: m.oldest,
-            next,
-            marks,
-            timers,
-            cells,
-        };
+        let mat = assembled(m.oldest, next, marks, timers, cells);
         Sent {
             answer,
             mat,
@@ -136,13 +175,7 @@ pub fn resend(l: Limits, m: Mat, k: usize) -> Sent
         };
         let number = found.number;
         let row = soundmat::again(l, number, &mut timers, &cells);
-        let mat = Mat {
-            oldest: m.oldest,
-            next: m.next,
-            marks,
-            timers,
-            cells,
-        };
+        let mat = assembled(m.oldest, m.next, marks, timers, cells);
         Sent {
             answer,
             mat,

@@ -14,92 +14,81 @@ ghost use Rattle.limits.specs.Ring.{distance, step};
 ghost use Rattle.limits.specs.Tables.{soundReply};
 ghost use Rattle.mat.specs.Rules.{sendQuestions, sending, resendQuestions, resending, acknowledgeQuestions, passing, acknowledging, ticked};
 ghost use Rattle.mat.specs.View.{matOf, outstandingOf, cellsAt, matState, soundNumbers, soundMarks, soundMat, AcknowledgeCall};
-use crate::Mat;
 use limits::Limits;
 use limits::answer::Answer;
 use limits::ring;
 
-// Whether the marks of `count` numbers from place `from` on, round the ring, are off.
+// Whether the marks of `count` numbers from place `from` on, round the ring, are off: a span to the ring's end and one from place 0.
 fn unmarked(marks: &[bool; 32], w: usize, from: usize, count: usize) -> bool
-    requires { ⌜ (w ≤ 32) × (from < w) ⌝ }
+    requires { ⌜ (w ≤ 32) × (from < w) × (count ≤ w) ⌝ }
     ensures { λ r. ⌜ r ≡ all not (tab count (λ i. getD (now (marks .entry)) ((from + i) % w) false)) ⌝ }
 {
-    let mut at = from;
-    let mut i = 0;
-    while i < count {
-        if marks[at] {
-            return false;
-        } else {
-            at = rows::after(w, at);
-            i += 1;
-        }
-    }
-    true
+    let over = rows::beyond(w, from + count);
+    rows::both(
+        rows::none_set(marks, from, from + count - over),
+        rows::none_set(marks, 0, over),
+    )
 }
 
 // Whether the rows of `count` numbers from place `from` on, round the ring, have legal cells.
 fn legal_rows(cells: &[u16; 512], w: usize, from: usize, count: usize) -> bool
-    requires { ⌜ (w ≤ 32) × (from < w) ⌝ }
+    requires { ⌜ (w ≤ 32) × (from < w) × (count ≤ w) ⌝ }
     ensures { λ r. ⌜ r ≡ all legalRow (tab count (λ i. rowAt (now (cells .entry)) ((from + i) % w))) ⌝ }
 {
-    let mut at = from;
-    let mut i = 0;
-    while i < count {
-        let row = rows::load(cells, at);
-        if rows::legal_row(row) {
-            at = rows::after(w, at);
-            i += 1;
-        } else {
-            return false;
-        }
-    }
-    true
+    let over = rows::beyond(w, from + count);
+    rows::both(
+        rows::legal_cells(cells, 16 * from, 16 * (from + count - over)),
+        rows::legal_cells(cells, 0, 16 * over),
+    )
 }
 
-fn numbers_sound(w: usize, m: Mat) -> bool
+fn numbers_sound(w: usize, oldest: usize, next: usize) -> bool
     requires { ⌜ (1 ≤ w) × (w ≤ 32) ⌝ }
-    ensures { λ r. ⌜ r ≡ soundNumbers w m ⌝ }
+    ensures { λ r. ⌜ ((marks : List Bool) (timers cells : List ℕ) → r ≡ soundNumbers w (matOf oldest next marks timers cells)) ⌝ }
 {
-    let oldest = m.oldest;
-    let next = m.next;
-    oldest < 2 * w && (next < 2 * w && ring::gap(2 * w, oldest, next) <= w)
+    rows::both(oldest < 2 * w, next < 2 * w) && ring::gap(2 * w, oldest, next) <= w
 }
 
-fn marks_sound(w: usize, m: Mat) -> bool
-    requires { ⌜ (1 ≤ w) × (w ≤ 32) × (soundNumbers w m ≡ true) ⌝ }
-    ensures { λ r. ⌜ r ≡ soundMarks w m ⌝ }
+fn marks_sound(w: usize, oldest: usize, next: usize, marks: &[bool; 32]) -> bool
+    requires { ⌜ (1 ≤ w) × (w ≤ 32) × (oldest < 2 * w) × (next < 2 * w) × (distance (2 * w) oldest next ≤ w) ⌝ }
+    ensures { λ r. ⌜ ((timers cells : List ℕ) → r ≡ soundMarks w (matOf oldest next (now (marks .entry)) timers cells)) ⌝ }
 {
-    let oldest = m.oldest;
-    let next = m.next;
     let out = ring::gap(2 * w, oldest, next);
     let at = ring::slot(w, oldest);
-    if m.marks[at] {
-        false
-    } else {
-        unmarked(&m.marks, w, ring::slot(w, next), w - out)
-    }
+    rows::both(!marks[at], unmarked(marks, w, ring::slot(w, next), w - out))
 }
 
-fn rows_sound(l: Limits, m: Mat) -> bool
-    requires { ⌜ (soundLimits l ≡ true) × (soundNumbers (l .window) m ≡ true) ⌝ }
-    ensures { λ r. ⌜ r ≡ (all (λ t. leb t (l .resendwait)) (tab (l .window) (λ i. getD (m .timers) i 0))
-        && all legalRow (tab (outstandingOf (l .window) m) (cellsAt (l .window) m))) ⌝ }
+fn rows_sound(l: Limits, oldest: usize, next: usize, timers: &[u16; 32], cells: &[u16; 512]) -> bool
+    requires { ⌜ (soundLimits l ≡ true) × (oldest < 2 * l .window) × (next < 2 * l .window) × (distance (2 * l .window) oldest next ≤ l .window) ⌝ }
+    ensures { λ r. ⌜ ((marks : List Bool) → (let m = matOf oldest next marks (now (timers .entry)) (now (cells .entry)) in
+        r ≡ (all (λ t. leb t (l .resendwait)) (tab (l .window) (λ i. getD (m .timers) i 0))
+        && all legalRow (tab (outstandingOf (l .window) m) (cellsAt (l .window) m))))) ⌝ }
 {
     let w = l.window;
-    let oldest = m.oldest;
-    let out = ring::gap(2 * w, oldest, m.next);
-    if rows::at_most(&m.timers, w, l.resendwait) {
-        legal_rows(&m.cells, w, ring::slot(w, oldest), out)
-    } else {
-        false
-    }
+    let out = ring::gap(2 * w, oldest, next);
+    rows::both(
+        rows::at_most(timers, w, l.resendwait),
+        legal_rows(cells, w, ring::slot(w, oldest), out),
+    )
 }
 
-pub fn mat_sound(l: Limits, m: Mat) -> bool
+// The numbers first: the marks and rows to look at lie by them.
+pub fn mat_sound(
+    l: Limits,
+    oldest: usize,
+    next: usize,
+    marks: &[bool; 32],
+    timers: &[u16; 32],
+    cells: &[u16; 512],
+) -> bool
     requires { ⌜ soundLimits l ≡ true ⌝ }
-    ensures { λ r. ⌜ r ≡ soundMat l m ⌝ }
+    ensures { λ r. ⌜ r ≡ soundMat l (matOf oldest next (now (marks .entry)) (now (timers .entry)) (now (cells .entry))) ⌝ }
 {
-    numbers_sound(l.window, m) && (marks_sound(l.window, m) && rows_sound(l, m))
+    numbers_sound(l.window, oldest, next)
+        && rows::both(
+            marks_sound(l.window, oldest, next, marks),
+            rows_sound(l, oldest, next, timers, cells),
+        )
 }
 
 // What a send finds: the answer, and the row to send or zeros.

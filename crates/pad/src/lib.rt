@@ -7,7 +7,7 @@ ghost use Rattle.limits.specs.Questions.{ask, Answers, timeQuestions};
 ghost use Rattle.limits.specs.Limits.{soundLimits};
 ghost use Rattle.limits.specs.Tables.{soundData};
 ghost use Rattle.pad.specs.Rules.{arrival, run, runQuestions, replyQuestions, replying, ticked};
-ghost use Rattle.pad.specs.View.{padState, freshPad, soundPad, ArriveCall, ReplyCall, TickCall};
+ghost use Rattle.pad.specs.View.{padOf, padState, freshPad, soundPad, ArriveCall, ReplyCall, TickCall};
 
 pub mod soundpad;
 
@@ -21,6 +21,42 @@ pub struct Pad {
     pub held: [bool; 32],
     pub timers: [u16; 32],
     pub cells: [u16; 512],
+}
+
+// A pad's insides handed out and taken back, so that what holds a pad and lends its arrays need not know its fields.
+pub fn wanted_of(p: Pad) -> usize
+    ensures { λ r. ⌜ r ≡ p .wanted ⌝ }
+{
+    p.wanted
+}
+
+pub fn held_of(p: Pad) -> [bool; 32]
+    ensures { λ r. ⌜ r ≡ p .held ⌝ }
+{
+    p.held
+}
+
+pub fn timers_of(p: Pad) -> [u16; 32]
+    ensures { λ r. ⌜ r ≡ p .timers ⌝ }
+{
+    p.timers
+}
+
+pub fn cells_of(p: Pad) -> [u16; 512]
+    ensures { λ r. ⌜ r ≡ p .cells ⌝ }
+{
+    p.cells
+}
+
+pub fn assembled(wanted: usize, held: [bool; 32], timers: [u16; 32], cells: [u16; 512]) -> Pad
+    ensures { λ r. ⌜ r ≡ padOf wanted held timers cells ⌝ }
+{
+    Pad {
+        wanted,
+        held,
+        timers,
+        cells,
+    }
 }
 
 // Where the row was an old one, `first` and `last` are the reply to put.
@@ -54,27 +90,24 @@ pub struct Ticked {
 pub fn fresh() -> Pad
     ensures { λ r. ⌜ r ≡ freshPad ⌝ }
 {
-    Pad {
-        wanted: 0,
-        held: [false; 32],
-        timers: [0; 32],
-        cells: [0; 512],
-    }
+    assembled(0, [false; 32], [0; 32], [0; 512])
 }
 
 // Question 4 of limits and a pad.
 pub fn sound(l: Limits, p: Pad) -> bool
     ensures { λ r. ⌜ r ≡ (soundLimits l && soundPad l p) ⌝ }
 {
-    limits::sound_limits(l) && soundpad::pad_sound(l, p)
+    let held = p.held;
+    let timers = p.timers;
+    let cells = p.cells;
+    limits::sound_limits(l) && soundpad::pad_sound(l, p.wanted, &held, &timers, &cells)
 }
 
 // Question 4 of limits, a pad and a message.
 fn sound_with(l: Limits, p: Pad, number: usize, row: [u16; 16]) -> bool
     ensures { λ r. ⌜ r ≡ (soundLimits l && (soundPad l p && soundData l (record { number = number; row = row }))) ⌝ }
 {
-    limits::sound_limits(l)
-        && (soundpad::pad_sound(l, p) && rows::messages::data_sound(l, number, row))
+    sound(l, p) && rows::messages::data_sound(l, number, row)
 }
 
 // Data arrives at a pad that passed question 4.
@@ -90,12 +123,7 @@ fn taken(l: Limits, p: Pad, number: usize, row: [u16; 16]) -> Arrived
         soundpad::hold(l, number, &mut held, &mut timers, &mut cells, row);
         Arrived {
             answer: Answer::Done,
-            pad: Pad {
-                wanted,
-                held,
-                timers,
-                cells,
-            },
+            pad: assembled(wanted, held, timers, cells),
             old: false,
             first: 0,
             last: 0,
@@ -181,12 +209,7 @@ fn recorded(l: Limits, p: Pad, buffer: &mut [u16]) -> Replied
         let passed = soundpad::record_run(l, first, &mut held, &cells, count, buffer);
         Replied {
             answer,
-            pad: Pad {
-                wanted: passed.wanted,
-                held,
-                timers,
-                cells,
-            },
+            pad: assembled(passed.wanted, held, timers, cells),
             count,
             first,
             last: passed.last,

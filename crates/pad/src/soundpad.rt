@@ -13,7 +13,6 @@ ghost use Rattle.limits.specs.Limits.{soundLimits};
 ghost use Rattle.limits.specs.Ring.{distance};
 ghost use Rattle.pad.specs.Rules.{holding, run, runQuestions, replying, ticked};
 ghost use Rattle.pad.specs.View.{padOf, slotAt, padState, soundSlot, soundPad};
-use crate::Pad;
 use crate::RunLength;
 use limits::Limits;
 use limits::answer::Answer;
@@ -25,37 +24,45 @@ fn row_sound(held: bool, cells: &[u16; 512], at: usize) -> bool
     ensures { λ r. ⌜ r ≡ pick held (legalRow (rowAt (now (cells .entry)) at)) true ⌝ }
 {
     if held {
-        let row = rows::load(cells, at);
-        rows::legal_row(row)
+        rows::legal_cells(cells, 16 * at, 16 * at + 16)
     } else {
         true
     }
 }
 
 // Whether the rows held at the first w places have legal cells.
-fn cells_sound(p: Pad, w: usize) -> bool
+fn cells_sound(held: &[bool; 32], cells: &[u16; 512], w: usize) -> bool
     requires { ⌜ w ≤ 32 ⌝ }
-    ensures { λ r. ⌜ r ≡ all soundSlot (tab w (slotAt p)) ⌝ }
+    ensures { λ r. ⌜ ((wanted : ℕ) (timers : List ℕ)
+        → r ≡ all soundSlot (tab w (slotAt (padOf wanted (now (held .entry)) timers (now (cells .entry)))))) ⌝ }
 {
+    let mut good = true;
     let mut i = 0;
     while i < w {
-        let held = p.held[i];
-        if row_sound(held, &p.cells, i) {
-            i += 1;
-        } else {
-            return false;
-        }
+        good = rows::both(good, row_sound(held[i], cells, i));
+        i += 1;
     }
-    true
+    good
 }
 
-pub fn pad_sound(l: Limits, p: Pad) -> bool
+pub fn pad_sound(
+    l: Limits,
+    wanted: usize,
+    held: &[bool; 32],
+    timers: &[u16; 32],
+    cells: &[u16; 512],
+) -> bool
     requires { ⌜ soundLimits l ≡ true ⌝ }
-    ensures { λ r. ⌜ r ≡ soundPad l p ⌝ }
+    ensures { λ r. ⌜ r ≡ soundPad l (padOf wanted (now (held .entry)) (now (timers .entry)) (now (cells .entry))) ⌝ }
 {
     let w = l.window;
-    let timers = p.timers;
-    p.wanted < 2 * w && (rows::at_most(&timers, w, l.replywait) && cells_sound(p, w))
+    rows::both(
+        wanted < 2 * w,
+        rows::both(
+            rows::at_most(timers, w, l.replywait),
+            cells_sound(held, cells, w),
+        ),
+    )
 }
 
 // What recording a run gives: the number wanted then, and the last number of the run.

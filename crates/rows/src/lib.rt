@@ -1,12 +1,12 @@
 // Inner: called by air, mat, pad, frames and exports. Work on rows of 16 cells and on arrays of 32 entries, each helper with what
 // it needs alone.
 ghost use mathlib.Core.Path.{_≡_};
-ghost use mathlib.Core.Bool.{_&&_};
 ghost use Prim.Native.Nat.{_+_, _-_, _≤_, _<_, _%_};
 ghost use lib.ListN.{length, take, drop, getD, set};
+ghost use mathlib.Core.Bool.{false, not, _&&_};
 ghost use lib.Dec.{leb};
 ghost use Rattle.limits.specs.Lists.{tab, all};
-ghost use Rattle.limits.specs.Cells.{rowAt, legalRow};
+ghost use Rattle.limits.specs.Cells.{rowAt, legalCell, legalRow};
 ghost use Rattle.rows.specs.Arrays.{pasted, written, fallen, closed, spanSet};
 
 pub mod messages;
@@ -50,26 +50,33 @@ pub fn load(cells: &[u16; 512], place: usize) -> [u16; 16]
     read(cells, 16 * place)
 }
 
-pub fn legal_row(row: [u16; 16]) -> bool
-    ensures { λ r. ⌜ r ≡ legalRow row ⌝ }
-{
-    let mut i = 0;
-    while i < 16 {
-        let cell = row[i];
-        if limits::cells::legal(cell) {
-            i += 1;
-        } else {
-            return false;
-        }
-    }
-    true
-}
-
-// Both, with no branch.
+// Both, with no branch: a loop that gathers its tests so looks at every entry and leaves at its end only, which makes it vector
+// code.
 pub fn both(a: bool, b: bool) -> bool
     ensures { λ r. ⌜ r ≡ (a && b) ⌝ }
 {
     a & b
+}
+
+// Whether the cells from `from` to before `to` are legal.
+pub fn legal_cells(cells: &[u16], from: usize, to: usize) -> bool
+    requires { ⌜ (from ≤ to) × (to ≤ length (now cells)) ⌝ }
+    ensures { λ r. ⌜ r ≡ all legalCell (take (to - from) (drop from (now (cells .entry)))) ⌝ }
+{
+    let count = to - from;
+    let mut good = true;
+    let mut i = 0;
+    while i < count {
+        good = both(good, limits::cells::legal(cells[from + i]));
+        i += 1;
+    }
+    good
+}
+
+pub fn legal_row(row: [u16; 16]) -> bool
+    ensures { λ r. ⌜ r ≡ legalRow row ⌝ }
+{
+    legal_cells(&row, 0, 16)
 }
 
 // Whether the first `n` entries are at most `most`.
@@ -77,21 +84,41 @@ pub fn at_most(xs: &[u16; 32], n: usize, most: u16) -> bool
     requires { ⌜ n ≤ 32 ⌝ }
     ensures { λ r. ⌜ r ≡ all (λ x. leb x most) (tab n (λ i. getD (now (xs .entry)) i 0)) ⌝ }
 {
+    let mut good = true;
     let mut i = 0;
     while i < n {
-        if xs[i] <= most {
-            i += 1;
-        } else {
-            return false;
-        }
+        good = both(good, xs[i] <= most);
+        i += 1;
     }
-    true
+    good
+}
+
+// Whether the marks from `from` to before `to` are off.
+pub fn none_set(marks: &[bool], from: usize, to: usize) -> bool
+    requires { ⌜ (from ≤ to) × (to ≤ length (now marks)) ⌝ }
+    ensures { λ r. ⌜ r ≡ all not (tab (to - from) (λ i. getD (now (marks .entry)) (from + i) false)) ⌝ }
+{
+    let count = to - from;
+    let mut good = true;
+    let mut i = 0;
+    while i < count {
+        good = both(good, !marks[from + i]);
+        i += 1;
+    }
+    good
 }
 
 pub fn less(x: u16, d: u16) -> u16
     ensures { λ r. ⌜ r ≡ x - d ⌝ }
 {
     if d <= x { x - d } else { 0 }
+}
+
+// How far x lies beyond w.
+pub fn beyond(w: usize, x: usize) -> usize
+    ensures { λ r. ⌜ r ≡ x - w ⌝ }
+{
+    if w <= x { x - w } else { 0 }
 }
 
 // The first `n` entries fall by `d` and stop at 0.

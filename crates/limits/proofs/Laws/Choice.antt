@@ -1,7 +1,7 @@
 -- Laws on `pick`, on tests and on lists of questions.
 use Prim.Native.Nat.{ℕ, _≤_, _<_}
-use mathlib.Core.Path.{_≡_, refl}
-use mathlib.Core.Bool.{Bool, true, false, _&&_, _||_}
+use mathlib.Core.Path.{_≡_, refl, sym, _∙_}
+use mathlib.Core.Bool.{Bool, true, false, _&&_, _||_, and-assoc}
 use lib.Dec.{leb}
 use borrow.Author.Tests.{leb-true, leb-false}
 use Rattle.limits.specs.Questions.{pick}
@@ -64,6 +64,13 @@ and-goes-on a b e = rw e
 
 pub and-stops : (a b : Bool) → a ≡ false → a ≡ (a && b)
 and-stops a b e = rw e
+
+-- the same where `a && b` is one flag
+pub pair-goes-on : (a b z flag : Bool) → flag ≡ (a && b) → flag ≡ true → z ≡ (a && (b && z))
+pair-goes-on a b z flag e q = and-goes-on (a && b) z (sym e ∙ q) ∙ and-assoc a b z
+
+pub pair-stops : (a b z flag : Bool) → flag ≡ (a && b) → flag ≡ false → flag ≡ (a && (b && z))
+pair-stops a b z flag e q = e ∙ and-stops (a && b) z (sym e ∙ q) ∙ and-assoc a b z
 
 pub or-goes-on : (a b : Bool) → a ≡ false → b ≡ (a || b)
 or-goes-on a b e = rw e

@@ -7,7 +7,7 @@ use native.Mathlib.Numerals.{add-one}
 use native.Mathlib.Omega.{arith}
 use lib.Dec.{eqb, ltb}
 use borrow.Author.Tests.{eqb-true, eqb-false, lt-ltb, le-ltb}
-use lib.ListN.{length, take, drop, getD, set, length-append, length-take, length-drop, length-set, List·getD-append}
+use lib.ListN.{length, take, drop, getD, set, length-append, length-take, length-drop, length-set, take-append-drop, List·getD-append}
 use lib.Seq.{getD-at, getD-append-add, ext-getD, getD-drop, getD-take, getD-set-same, getD-set-other}
 use Rattle.limits.specs.Lists.{tab, all, leading, joined}
 use Rattle.limits.specs.Questions.{pick}
@@ -55,6 +55,9 @@ module _ {A : Type 0} where
       is-tab (take k (tab n f)) k f (f 0) (length-take k (tab n f) ∙ (let e = length-tab n f in omega arith))
       (λ i j. getD-take k (tab n f) i (f 0) j ∙ getD-tab n f i (f 0) (omega arith))
 
+  pub split-tab : (k n : ℕ) (f : ℕ → A) → k ≤ n → tab n f ≡ tab k f ++ tab (n - k) (λ i. f (k + i))
+  split-tab k n f h = sym (take-append-drop k (tab n f)) ∙ ap₂ _++_ (take-tab k n f h) (drop-tab k n f)
+
   pub append-tab : (n m : ℕ) (f g : ℕ → A) → tab n f ++ tab m g ≡ tab (n + m) (λ i. pick (ltb i n) (f i) (g (i - n)))
   append-tab n m f g =
       is-tab (tab n f ++ tab m g) (n + m) (λ i. pick (ltb i n) (f i) (g (i - n))) (f 0)
@@ -85,12 +88,11 @@ module _ {A : Type 0} where
 
     -- a turn of a loop that tests every element
     pub all-next : (n : ℕ) (f : ℕ → A) → all p (tab (n + 1) f) ≡ (all p (tab n f) && p (f n))
-    unfolding tab all
-    all-next n f = rw add-one (all-append (tab n f) (f n ∷ []) ∙ ap (all p (tab n f) &&_) (and-true (p (f n))))
+    unfolding all
+    all-next n f = ap (all p) (tab-more n f) ∙ all-append (tab n f) (f n ∷ []) ∙ ap (all p (tab n f) &&_) (and-true (p (f n)))
 
     pub all-more : (n : ℕ) (f : ℕ → A) → all p (tab n f) ≡ true → p (f n) ≡ true → all p (tab (n + 1) f) ≡ true
-    unfolding tab all
-    all-more n f e h = rw add-one (all-append (tab n f) (f n ∷ []) ∙ both (all p (tab n f)) _ e (both (p (f n)) true h refl))
+    all-more n f e h = all-next n f ∙ both (all p (tab n f)) (p (f n)) e h
 
     pub all-tab : (n : ℕ) (f : ℕ → A) → ((i : ℕ) → i < n → p (f i) ≡ true) → all p (tab n f) ≡ true
     unfolding tab all
@@ -130,9 +132,25 @@ module _ {A : Type 0} (p : A → Bool) (f : ℕ → A) where
   pub all-end : (n i : ℕ) → all p (tab i f) ≡ true → i ≡ n → true ≡ all p (tab n f)
   all-end n i e q = sym (rw q at e)
 
+  -- the same of a loop that gathers its tests in a flag: where it starts, a turn, and where it ends
+  pub flag-start : true ≡ all p (tab 0 f)
+  flag-start = sym all-start
+
+  pub flag-turn : (i : ℕ) (flag next : Bool) → flag ≡ all p (tab i f) → next ≡ (flag && p (f i)) → next ≡ all p (tab (i + 1) f)
+  flag-turn i flag next e q = q ∙ ap (_&& p (f i)) e ∙ sym (all-next p i f)
+
+  pub flag-end : (n i : ℕ) (flag : Bool) → flag ≡ all p (tab i f) → i ≡ n → flag ≡ all p (tab n f)
+  flag-end n i flag e q = rw q at e
+
 -- a list by its own elements
 pub tab-self : {A : Type 0} (xs : List A) (n : ℕ) (d : A) → length xs ≡ n → tab n (λ i. getD xs i d) ≡ xs
 tab-self xs n d l = sym (is-tab xs n (λ i. getD xs i d) d l (λ i h. refl))
+
+-- a part of a list by its elements
+pub part-tab : {A : Type 0} (xs : List A) (a n : ℕ) (d : A) → a + n ≤ length xs → take n (drop a xs) ≡ tab n (λ i. getD xs (a + i) d)
+part-tab xs a n d h =
+    is-tab (take n (drop a xs)) n (λ i. getD xs (a + i) d) d (length-take n (drop a xs) ∙ (let l = length-drop a xs in omega arith))
+    (λ i k. getD-take n (drop a xs) i d k ∙ getD-drop a xs i d)
 
 module _ {A : Type 0} (p : A → Bool) where
   leading-is-list : (xs : List A) (k : ℕ) (d : A) → k ≤ length xs → ((i : ℕ) → i < k → p (getD xs i d) ≡ true) → (k < length xs → p (getD xs k d) ≡ false)

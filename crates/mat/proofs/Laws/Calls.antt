@@ -70,9 +70,9 @@ module _ (l : Limits) (m : Mat) (supply row : List ℕ) (a : Answer)
       let q = each (sendQuestions l (matState (l .window) m) supply) refl (none-no _ _ _ _ _ c e) in
       ap legalRow (done-of _ _ _ _ _ c e) ∙ q .1 .1 .0
 
-  pub send-done : (m' : Mat) → (soundMat l m' ≡ true) × (record { state = matState (l .window) m'; message = record { number = m .next; row = row } } ≡ sending l (matState (l .window) m) row)
-      → SendCall l m (sendQuestions l (matState (l .window) m) supply) (sending l (matState (l .window) m) supply) (record { answer = a; mat = m'; number = m .next; row = row })
-  send-done m' h = called-done _ _ _ _ _ (c .number) _ _ _ e (h .1 ∙ sending-row l _ row supply (done-of _ _ _ _ _ c e)) (h .0)
+  pub send-done : (m' mat : Mat) → mat ≡ m' → (soundMat l m' ≡ true) × (record { state = matState (l .window) m'; message = record { number = m .next; row = row } } ≡ sending l (matState (l .window) m) row)
+      → SendCall l m (sendQuestions l (matState (l .window) m) supply) (sending l (matState (l .window) m) supply) (record { answer = a; mat = mat; number = m .next; row = row })
+  send-done m' mat q h = rw q (called-done _ _ _ _ _ (c .number) _ _ _ e (h .1 ∙ sending-row l _ row supply (done-of _ _ _ _ _ c e)) (h .0))
 
 -- a resend that found a row to send again
 module _ (l : Limits) (m : Mat) (k number : ℕ) (a : Answer)
@@ -93,6 +93,6 @@ module _ (l : Limits) (m : Mat) (k number : ℕ) (a : Answer)
       let b = step-fits (2 * l .window) (m .oldest) k (omega arith) in
       let i = due-is in omega arith
 
-  pub resend-done : (m' : Mat) (row : List ℕ) → (soundMat l m' ≡ true) × (record { state = matState (l .window) m'; message = record { number = number; row = row } } ≡ resending l (matState (l .window) m) k)
-      → SendCall l m (resendQuestions l (matState (l .window) m) k) (resending l (matState (l .window) m) k) (record { answer = a; mat = m'; number = number; row = row })
-  resend-done m' row h = called-done _ _ _ _ _ (c .number) _ _ _ e (h .1) (h .0)
+  pub resend-done : (m' mat : Mat) (row : List ℕ) → mat ≡ m' → (soundMat l m' ≡ true) × (record { state = matState (l .window) m'; message = record { number = number; row = row } } ≡ resending l (matState (l .window) m) k)
+      → SendCall l m (resendQuestions l (matState (l .window) m) k) (resending l (matState (l .window) m) k) (record { answer = a; mat = mat; number = number; row = row })
+  resend-done m' mat row q h = rw q (called-done _ _ _ _ _ (c .number) _ _ _ e (h .1) (h .0))

@@ -94,20 +94,20 @@ set-most xs w p v most l h f i j =
     (λ e. let s = getD-set-other xs p i v 0 (eqb-false i p e) in let b = f i j in omega arith)
 
 -- the marks and rows that the decision looks at, by their places
-module _ (w : ℕ) (m : Mat) (n : Numbers w m) where
+module _ (w : ℕ) (m : Mat) where
   pub front-mark : (at : ℕ) → at ≡ m .oldest % w → getD (m .marks) at false ≡ markAt w m 0
   front-mark at e = ap (λ p. getD (m .marks) p false) (e ∙ ap (_% w) {x = m .oldest} {y = m .oldest + 0} (omega arith))
 
-  pub other-marks : (from count : ℕ) → from ≡ m .next % w → count ≡ w - outstandingOf w m
+  pub other-marks : m .oldest < 2 * w → m .next < 2 * w → (from count : ℕ) → from ≡ m .next % w → count ≡ w - outstandingOf w m
       → all not (tab count (λ i. getD (m .marks) ((from + i) % w) false)) ≡ all not (tab (w - outstandingOf w m) (λ i. markAt w m (outstandingOf w m + i)))
-  other-marks from count e q =
-      ap (λ k. all not (tab k (λ i. getD (m .marks) ((from + i) % w) false))) q
+  other-marks h k from count e q =
+      ap (λ n. all not (tab n (λ i. getD (m .marks) ((from + i) % w) false))) q
       ∙ ap (all not) (tab-ext (w - outstandingOf w m) _ _
-      (λ i h. ap (λ p. getD (m .marks) p false)
-      (ap (λ a. (a + i) % w) e ∙ mod-add-mod (m .next) w i ∙ place-by-distance w (m .oldest) (m .next) i (n .oldest) (n .next))))
+      (λ i j. ap (λ p. getD (m .marks) p false)
+      (ap (λ a. (a + i) % w) e ∙ mod-add-mod (m .next) w i ∙ place-by-distance w (m .oldest) (m .next) i h k)))
 
   pub legal-cells : (from count : ℕ) → from ≡ m .oldest % w → count ≡ outstandingOf w m
       → all legalRow (tab count (λ i. rowAt (m .cells) ((from + i) % w))) ≡ all legalRow (tab (outstandingOf w m) (cellsAt w m))
   legal-cells from count e q =
-      ap (λ k. all legalRow (tab k (λ i. rowAt (m .cells) ((from + i) % w)))) q
-      ∙ ap (all legalRow) (tab-ext (outstandingOf w m) _ _ (λ i h. ap (rowAt (m .cells)) (ap (λ a. (a + i) % w) e ∙ mod-add-mod (m .oldest) w i)))
+      ap (λ n. all legalRow (tab n (λ i. rowAt (m .cells) ((from + i) % w)))) q
+      ∙ ap (all legalRow) (tab-ext (outstandingOf w m) _ _ (λ i j. ap (rowAt (m .cells)) (ap (λ a. (a + i) % w) e ∙ mod-add-mod (m .oldest) w i)))

@@ -33,17 +33,20 @@ again-requires c κs = let m = c .before .before .before .before .before .before
     let t = two _ _ (sym (c .before .before .before .before .before .before .before .before .before .before .before .sound .ensures) ∙ c .before .before .before .before .before .before .before .before .before .before .if1 .taken) in
     (t .0, due-low _ m _ _ _ (c .before .before .before .before .due .ensures (m .cells)) (ap numberOf (c .before .before .enum-told .given .1)) (t .0) (t .1))
 
+assembled-requires : tie.Need-assembled-requires
+assembled-requires c κs = search needs
+
 not-sent-requires-2 : tie.Need-not-sent-requires-2
 not-sent-requires-2 c κs = search needs
 
 returns-2 : tie.Need-returns-2
-returns-2 c = let s = c .before .before .before .before .before .before .before .before .before .before .before .before .before in let l = s .args .l in let m = s .args .m in
-    let q = sym (c .before .before .before .before .before .before .before .before .before .before .before .before .sound .ensures) ∙ c .before .before .before .before .before .before .before .before .before .before .before .if1 .taken in
-    let a = c .before .before .before .before .before .due .ensures (m .cells) in
-    let d = ap numberOf (c .before .before .before .enum-told .given .1) in
+returns-2 c = let s = c .before .before .before .before .before .before .before .before .before .before .before .before .before .before in let l = s .args .l in let m = s .args .m in
+    let q = sym (c .before .before .before .before .before .before .before .before .before .before .before .before .before .sound .ensures) ∙ c .before .before .before .before .before .before .before .before .before .before .before .before .if1 .taken in
+    let a = c .before .before .before .before .before .before .due .ensures (m .cells) in
+    let d = ap numberOf (c .before .before .before .before .enum-told .given .1) in
     let t = two (soundLimits l) (soundMat l m) q in
     called-sound _ _ _ _ _ _ _ _ _ q
-    (resend-done _ m _ _ _ a d _ _ (c .again .ensures (m .oldest) (m .next) (m .marks) _ (t .1) (due-there l m _ _ _ a d) (due-is l m _ _ _ a d)))
+    (resend-done _ m _ _ _ a d _ _ _ (c .assembled .ensures) (c .before .again .ensures (m .oldest) (m .next) (m .marks) _ (t .1) (due-there l m _ _ _ a d) (due-is l m _ _ _ a d)))
 
 returns-3 : tie.Need-returns-3
 returns-3 c = unsent-called _ (c .before .before .before .args .m) _ _ _ _ (c .not-sent2 .ensures) (sym (pick-no _ _ _ _ (sym (c .before .before .sound .ensures) ∙ c .before .if1 .left) refl)) refl
@@ -58,6 +61,7 @@ resend-spec =
     not-sent-requires
     returns
     again-requires
+    assembled-requires
     not-sent-requires-2
     returns-2
     returns-3)

@@ -32,18 +32,21 @@ keep-requires : tie.Need-keep-requires
 keep-requires c κs = let q = two _ _ (sym (c .before .before .before .before .before .before .before .before .before .before .sound .ensures) ∙ c .before .before .before .before .before .before .before .before .before .if1 .taken) in
     (q .0, facts _ (c .before .before .before .before .before .before .before .before .before .before .before .before .args .m) (q .0) (q .1) .numbers .next)
 
+assembled-requires : tie.Need-assembled-requires
+assembled-requires c κs = search needs
+
 not-sent-requires-2 : tie.Need-not-sent-requires-2
 not-sent-requires-2 c κs = search needs
 
 returns-2 : tie.Need-returns-2
-returns-2 c = let s = c .before .before .before .before .before .before .before .before .before .before .before .before .before in
+returns-2 c = let s = c .before .before .before .before .before .before .before .before .before .before .before .before .before .before in
     let l = s .args .l in let m = s .args .m in
-    let q = sym (c .before .before .before .before .before .before .before .before .before .before .before .sound .ensures) ∙ c .before .before .before .before .before .before .before .before .before .before .if1 .taken in
-    let a = c .before .before .before .before .before .before .before .before .before .next-row .ensures (m .marks) (m .timers) (m .cells) in
-    let d = ap numberOf (c .before .before .before .before .before .before .before .enum-told .given .1) in
+    let q = sym (c .before .before .before .before .before .before .before .before .before .before .before .before .sound .ensures) ∙ c .before .before .before .before .before .before .before .before .before .before .before .if1 .taken in
+    let a = c .before .before .before .before .before .before .before .before .before .before .next-row .ensures (m .marks) (m .timers) (m .cells) in
+    let d = ap numberOf (c .before .before .before .before .before .before .before .before .enum-told .given .1) in
     let t = two (soundLimits l) (soundMat l m) q in
     called-sound _ _ _ _ _ _ _ _ _ q
-    (send-done _ m (s .args .supply .now) _ _ a d _ (c .keep .ensures (m .oldest) (m .marks) (t .1) (next-fits l m (s .args .supply .now) _ _ a d) (next-legal l m (s .args .supply .now) _ _ a d)))
+    (send-done _ m (s .args .supply .now) _ _ a d _ _ (c .assembled .ensures) (c .before .keep .ensures (m .oldest) (m .marks) (t .1) (next-fits l m (s .args .supply .now) _ _ a d) (next-legal l m (s .args .supply .now) _ _ a d)))
 
 returns-3 : tie.Need-returns-3
 returns-3 c = unsent-called _ (c .before .before .before .before .args .m) _ _ _ _ (c .not-sent2 .ensures) (sym (pick-no _ _ _ _ (sym (c .before .before .sound .ensures) ∙ c .before .if1 .left) refl)) refl
@@ -58,6 +61,7 @@ send-spec =
     not-sent-requires
     returns
     keep-requires
+    assembled-requires
     not-sent-requires-2
     returns-2
     returns-3)

@@ -8,10 +8,10 @@ sound-limits-requires : tie.Need-sound-limits-requires
 sound-limits-requires c κs = search needs
 
 mat-sound-requires : tie.Need-mat-sound-requires
-mat-sound-requires c κs = sym (c .before .sound-limits .ensures) ∙ c .if1 .taken
+mat-sound-requires c κs = sym (c .before .before .before .before .sound-limits .ensures) ∙ c .before .before .before .if1 .taken
 
 returns : tie.Need-returns
-returns c = c .mat-sound .ensures ∙ and-goes-on _ _ (sym (c .before .before .sound-limits .ensures) ∙ c .before .if1 .taken)
+returns c = c .mat-sound .ensures ∙ and-goes-on _ _ (sym (c .before .before .before .before .before .sound-limits .ensures) ∙ c .before .before .before .before .if1 .taken)
 
 returns-2 : tie.Need-returns-2
 returns-2 c = c .before .sound-limits .ensures ∙ and-stops _ _ (sym (c .before .sound-limits .ensures) ∙ c .if1 .left)

@@ -1,34 +1,23 @@
-use Rattle.limits.proofs.Laws.Choice.{and-goes-on, and-stops}
+use Rattle.limits.specs.Limits.{soundLimits}
+use Rattle.mat.specs.View.{soundMat}
+use Rattle.limits.proofs.Laws.Choice.{and-left, pair-goes-on, pair-stops}
 use mathlib.Core.Path.{sym, _∙_}
 use borrow.Author.Needs.{needs}
 use Rattle.mat.proofs.sound_with.Statement.{statement}
 use Rattle.mat.proofs.sound_with.Tie as tie
 
-sound-limits-requires : tie.Need-sound-limits-requires
-sound-limits-requires c κs = search needs
-
-mat-sound-requires : tie.Need-mat-sound-requires
-mat-sound-requires c κs = sym (c .before .sound-limits .ensures) ∙ c .if1 .taken
+sound-requires : tie.Need-sound-requires
+sound-requires c κs = search needs
 
 reply-sound-requires : tie.Need-reply-sound-requires
-reply-sound-requires c κs = sym (c .before .before .before .sound-limits .ensures) ∙ c .before .before .if1 .taken
+reply-sound-requires c κs = and-left _ _ (sym (c .before .sound .ensures) ∙ c .if1 .taken)
 
 returns : tie.Need-returns
-returns c = c .reply-sound .ensures ∙ and-goes-on _ _ (sym (c .before .before .mat-sound .ensures) ∙ c .before .if2 .taken) ∙ and-goes-on _ _ (sym (c .before .before .before .before .sound-limits .ensures) ∙ c .before .before .before .if1 .taken)
+returns c = let a = c .before .before .before .args in
+    c .reply-sound .ensures ∙ pair-goes-on (soundLimits (a .l)) (soundMat (a .l) (a .m)) _ _ (c .before .before .sound .ensures) (c .before .if1 .taken)
 
 returns-2 : tie.Need-returns-2
-returns-2 c = c .before .mat-sound .ensures ∙ and-stops _ _ (sym (c .before .mat-sound .ensures) ∙ c .if2 .left) ∙ and-goes-on _ _ (sym (c .before .before .before .sound-limits .ensures) ∙ c .before .before .if1 .taken)
-
-returns-3 : tie.Need-returns-3
-returns-3 c = c .before .sound-limits .ensures ∙ and-stops _ _ (sym (c .before .sound-limits .ensures) ∙ c .if1 .left)
+returns-2 c = let a = c .before .before .args in pair-stops (soundLimits (a .l)) (soundMat (a .l) (a .m)) _ _ (c .before .sound .ensures) (c .if1 .left)
 
 pub sound-with-spec : {M : Type 1} → statement M
-sound-with-spec =
-    tie.close
-    (tie.spec
-    sound-limits-requires
-    mat-sound-requires
-    reply-sound-requires
-    returns
-    returns-2
-    returns-3)
+sound-with-spec = tie.close (tie.spec sound-requires reply-sound-requires returns returns-2)

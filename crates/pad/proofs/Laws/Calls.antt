@@ -21,15 +21,16 @@ use Rattle.pad.proofs.Laws.Refused.{reply-passes}
 
 -- data arrives: a row of the window, and an old one
 module _ (l : Limits) (p : Pad) (number : ℕ) (row : List ℕ) where
-  pub arrive-new : (p' : Pad) → distance (2 * l .window) (p .wanted) number < l .window
+  pub arrive-new : (p' pad : Pad) → pad ≡ p' → distance (2 * l .window) (p .wanted) number < l .window
       → (soundPad l p' ≡ true) × (padState (l .window) p' ≡ holding l (padState (l .window) p) (record { number = number; row = row }))
       → ArriveCall l p [] (arrival l (padState (l .window) p) (record { number = number; row = row }))
-      (record { answer = Done; pad = p'; old = false; first = 0; last = 0 })
+      (record { answer = Done; pad = pad; old = false; first = 0; last = 0 })
   unfolding arrival padState
-  arrive-new p' h e =
-      called-done _ _ _ _ _ refl _ _ _ refl
+  arrive-new p' pad q h e =
+      rw q
+      (called-done _ _ _ _ _ refl _ _ _ refl
       (ap (λ x. record { state = x; old = false; reply = noReply }) (e .1) ∙ sym (pick-yes _ _ _ _ (lt-ltb _ _ h) refl))
-      (e .0)
+      (e .0))
 
   pub arrive-old : ltb (distance (2 * l .window) (p .wanted) number) (l .window) ≡ false
       → ArriveCall l p [] (arrival l (padState (l .window) p) (record { number = number; row = row }))
@@ -42,12 +43,13 @@ module _ (l : Limits) (p : Pad) (number : ℕ) (row : List ℕ) where
       }
 
 -- a reply that was given
-module _ (l : Limits) (p p' : Pad) (before after : List ℕ) (count last : ℕ) (a : Answer) where
+module _ (l : Limits) (p p' pad : Pad) (same : pad ≡ p') (before after : List ℕ) (count last : ℕ) (a : Answer) where
   pub reply-done : numberOf a ≡ 0 → 0 < run (padState (l .window) p) → count ≡ run (padState (l .window) p) → 16 * count ≤ length before
       → (soundPad l p' ≡ true) × (record { state = padState (l .window) p'; count = count; reply = record { first = p .wanted; last = last }; buffer = after } ≡ replying l (padState (l .window) p) before)
       → ReplyCall l p before after (replyQuestions (padState (l .window) p) (length before)) (replying l (padState (l .window) p) before)
-      (record { answer = a; pad = p'; count = count; first = p .wanted; last = last })
+      (record { answer = a; pad = pad; count = count; first = p .wanted; last = last })
   reply-done e h q k s =
-      called-done _ _ _ _ _
+      rw same
+      (called-done _ _ _ _ _
       (e ∙ reply-passes (l .window) p count q (length before) (rw q h) k)
-      _ _ _ e (s .1) (s .0)
+      _ _ _ e (s .1) (s .0))

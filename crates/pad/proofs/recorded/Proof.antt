@@ -34,6 +34,9 @@ record-run-requires c κs = let b = c .before .before .before .before .before .b
     let f = run-found _ (b .args .p) _ _ (c .before .before .before .before .before .before .run-length .ensures (b .args .p .cells)) (ap numberOf (c .before .before .before .before .enum-told .given .1)) in
     (b .pre .0, k .facts .low, omega arith, omega arith, omega (arith, c .before .before .before .if1 .taken))
 
+assembled-requires : tie.Need-assembled-requires
+assembled-requires c κs = search needs
+
 not-replied-requires-2 : tie.Need-not-replied-requires-2
 not-replied-requires-2 c κs = search needs
 
@@ -41,10 +44,10 @@ same-length : tie.Need-same-length
 same-length c = search needs
 
 returns-2 : tie.Need-returns-2
-returns-2 c = let b = c .before .before .before .before .before .before .before .before .before .before .before .before .before .before .before .before in
-    let d = ap numberOf (c .before .before .before .before .before .before .before .enum-told .given .1) in
-    let f = run-found _ (b .args .p) _ _ (c .before .before .before .before .before .before .before .before .before .run-length .ensures (b .args .p .cells)) d in
-    reply-done _ (b .args .p) _ (b .args .buffer .now) _ _ _ _ d (f .0) (f .1) (omega (arith, c .before .before .before .before .before .before .if1 .taken)) (c .before .before .record-run .ensures (b .args .p .timers) (b .pre .1) (f .1))
+returns-2 c = let b = c .before .before .before .before .before .before .before .before .before .before .before .before .before .before .before .before .before in
+    let d = ap numberOf (c .before .before .before .before .before .before .before .before .enum-told .given .1) in
+    let f = run-found _ (b .args .p) _ _ (c .before .before .before .before .before .before .before .before .before .before .run-length .ensures (b .args .p .cells)) d in
+    reply-done _ (b .args .p) _ _ (c .assembled .ensures) (b .args .buffer .now) _ _ _ _ d (f .0) (f .1) (omega (arith, c .before .before .before .before .before .before .before .if1 .taken)) (c .before .before .before .record-run .ensures (b .args .p .timers) (b .pre .1) (f .1))
 
 returns-3 : tie.Need-returns-3
 returns-3 c = let b = c .before .before .before .before .before .before .before .before .before .before .before in let e = c .not-replied2 .ensures in
@@ -61,6 +64,7 @@ recorded-spec =
     returns
     mul-if1
     record-run-requires
+    assembled-requires
     not-replied-requires-2
     same-length
     returns-2

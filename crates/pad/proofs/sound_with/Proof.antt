@@ -1,38 +1,23 @@
-use Rattle.limits.proofs.Laws.Choice.{and-goes-on, and-stops}
+use Rattle.limits.specs.Limits.{soundLimits}
+use Rattle.pad.specs.View.{soundPad}
+use Rattle.limits.proofs.Laws.Choice.{and-left, pair-goes-on, pair-stops}
 use mathlib.Core.Path.{sym, _∙_}
 use borrow.Author.Needs.{needs}
 use Rattle.pad.proofs.sound_with.Statement.{statement}
 use Rattle.pad.proofs.sound_with.Tie as tie
 
-sound-limits-requires : tie.Need-sound-limits-requires
-sound-limits-requires c κs = search needs
-
-pad-sound-requires : tie.Need-pad-sound-requires
-pad-sound-requires c κs = sym (c .before .sound-limits .ensures) ∙ c .if1 .taken
+sound-requires : tie.Need-sound-requires
+sound-requires c κs = search needs
 
 data-sound-requires : tie.Need-data-sound-requires
-data-sound-requires c κs = sym (c .before .before .before .sound-limits .ensures) ∙ c .before .before .if1 .taken
+data-sound-requires c κs = and-left _ _ (sym (c .before .sound .ensures) ∙ c .if1 .taken)
 
 returns : tie.Need-returns
-returns c = c .data-sound .ensures
-    ∙ and-goes-on _ _ (sym (c .before .before .pad-sound .ensures) ∙ c .before .if2 .taken)
-    ∙ and-goes-on _ _ (sym (c .before .before .before .before .sound-limits .ensures) ∙ c .before .before .before .if1 .taken)
+returns c = let a = c .before .before .before .args in
+    c .data-sound .ensures ∙ pair-goes-on (soundLimits (a .l)) (soundPad (a .l) (a .p)) _ _ (c .before .before .sound .ensures) (c .before .if1 .taken)
 
 returns-2 : tie.Need-returns-2
-returns-2 c = c .before .pad-sound .ensures
-    ∙ and-stops _ _ (sym (c .before .pad-sound .ensures) ∙ c .if2 .left)
-    ∙ and-goes-on _ _ (sym (c .before .before .before .sound-limits .ensures) ∙ c .before .before .if1 .taken)
-
-returns-3 : tie.Need-returns-3
-returns-3 c = c .before .sound-limits .ensures ∙ and-stops _ _ (sym (c .before .sound-limits .ensures) ∙ c .if1 .left)
+returns-2 c = let a = c .before .before .args in pair-stops (soundLimits (a .l)) (soundPad (a .l) (a .p)) _ _ (c .before .sound .ensures) (c .if1 .left)
 
 pub sound-with-spec : {M : Type 1} → statement M
-sound-with-spec =
-    tie.close
-    (tie.spec
-    sound-limits-requires
-    pad-sound-requires
-    data-sound-requires
-    returns
-    returns-2
-    returns-3)
+sound-with-spec = tie.close (tie.spec sound-requires data-sound-requires returns returns-2)

@@ -1,12 +1,16 @@
 -- Laws on rows of 16 cells.
-use Prim.Native.Nat.{ℕ, _+_, _-_, _*_, _≤_, _<_}
-use mathlib.Core.Path.{_≡_, sym, _∙_, ap}
+use Prim.Native.Nat.{ℕ, zero, suc, _+_, _-_, _*_, _≤_, _<_}
+use mathlib.Core.Path.{_≡_, refl, sym, _∙_, ap, ap₂}
+use mathlib.Core.Bool.{_&&_}
 use mathlib.Core.List.{List}
+use native.Mathlib.Numerals.{add-one}
 use native.Mathlib.Omega.{arith}
 use lib.ListN.{length, getD, take, drop, length-take, length-drop}
-use lib.Seq.{ext-getD, getD-take, getD-drop}
-use Rattle.limits.specs.Cells.{rowAt}
+use lib.Seq.{ext-getD, getD-take, getD-drop, take-add, drop-drop}
+use Rattle.limits.specs.Cells.{rowAt, legalCell, legalRow}
+use Rattle.limits.specs.Lists.{tab, all}
 use Rattle.limits.proofs.Laws.Choice.{split}
+use Rattle.limits.proofs.Laws.Lists.{all-append, all-next}
 use Rattle.rows.specs.Arrays.{changed, from-to, pasted, written}
 use Rattle.rows.proofs.Laws.Changed.{length-changed, changed-at, changed-other, inside, below, above}
 
@@ -59,3 +63,27 @@ written-other p q row cells n h ne =
     ∙ changed-other 0 _ _ cells (16 * q + i)
     (split q p (λ o. below (16 * p) (16 * p + 16) (16 * q + i) (omega arith)) (λ o. above (16 * p) (16 * p + 16) (16 * q + i) (omega arith)))
     ∙ sym (getD-take 16 (drop (16 * q) cells) i 0 (omega arith) ∙ getD-drop (16 * q) cells i 0))
+
+-- the cells of rows that stand one behind the other
+legal-rows : (cells : List ℕ) (a n : ℕ) → all legalCell (take (16 * n) (drop (16 * a) cells)) ≡ all legalRow (tab n (λ i. rowAt cells (a + i)))
+unfolding tab all
+legal-rows cells a zero = refl
+legal-rows cells a (suc n) =
+    ap (λ k. all legalCell (take k (drop (16 * a) cells))) {x = 16 * suc n} {y = 16 * n + 16} (omega arith)
+    ∙ ap (all legalCell) (take-add (16 * n) 16 (drop (16 * a) cells))
+    ∙ all-append legalCell (take (16 * n) (drop (16 * a) cells)) (take 16 (drop (16 * n) (drop (16 * a) cells)))
+    ∙ ap₂ _&&_ (legal-rows cells a n)
+    (ap (λ l. legalRow (take 16 l)) (drop-drop (16 * n) (16 * a) cells)
+    ∙ ap (λ k. legalRow (take 16 (drop k cells))) {x = 16 * a + 16 * n} {y = 16 * (a + n)} (omega arith))
+    ∙ sym (all-next legalRow n (λ i. rowAt cells (a + i)))
+    ∙ ap (λ k. all legalRow (tab k (λ i. rowAt cells (a + i)))) (add-one n)
+
+-- from row a to before row b
+pub legal-part : (cells : List ℕ) (a b : ℕ)
+    → all legalCell (take (16 * b - 16 * a) (drop (16 * a) cells)) ≡ all legalRow (tab (b - a) (λ i. rowAt cells (a + i)))
+legal-part cells a b =
+    ap (λ k. all legalCell (take k (drop (16 * a) cells))) {x = 16 * b - 16 * a} {y = 16 * (b - a)} (omega arith) ∙ legal-rows cells a (b - a)
+
+-- one row
+pub legal-one : (cells : List ℕ) (at : ℕ) → all legalCell (take (16 * at + 16 - 16 * at) (drop (16 * at) cells)) ≡ legalRow (rowAt cells at)
+legal-one cells at = ap (λ n. all legalCell (take n (drop (16 * at) cells))) {x = 16 * at + 16 - 16 * at} {y = 16} (omega arith)

@@ -1,18 +1,20 @@
 -- Laws on arrays whose places stand for numbers modulo w.
-use Prim.Native.Nat.{ℕ, _+_, _%_, _≤_, _<_}
-use mathlib.Core.Path.{_≡_, refl, sym, _∙_, ap}
+use Prim.Native.Nat.{ℕ, _+_, _-_, _%_, _≤_, _<_}
+use mathlib.Core.Path.{_≡_, refl, sym, _∙_, ap, ap₂}
 use mathlib.Core.Bool.{Bool, false, _&&_}
-use mathlib.Core.List.{List}
+use mathlib.Core.List.{List, _++_}
 use native.Mathlib.Omega.{arith}
 use native.Mathlib.Nat.{mod-lt, mod-eq-of-lt, mod-self, mod-add-mod}
 use lib.Dec.{eqb, ltb}
 use borrow.Author.Tests.{lt-ltb, le-ltb, eqb-true, eqb-false}
 use lib.ListN.{length, getD, set}
 use lib.Seq.{getD-set-same, getD-set-other}
+use Rattle.limits.specs.Lists.{tab, all}
 use Rattle.limits.specs.Questions.{pick}
 use Rattle.limits.specs.Ring.{distance}
 use Rattle.limits.proofs.Laws.Choice.{split, test, pick-yes, pick-no, and-no-left, and-no-right, both}
-use Rattle.limits.proofs.Laws.Ring.{distance-on, distance-round, distance-step, distance-is, place-distance, place-inj}
+use Rattle.limits.proofs.Laws.Lists.{split-tab, tab-ext, all-append}
+use Rattle.limits.proofs.Laws.Ring.{mod-once, distance-on, distance-round, distance-step, distance-is, place-distance, place-inj}
 use Rattle.rows.specs.Arrays.{from-to, spanSet}
 use Rattle.rows.proofs.Laws.Changed.{length-changed, changed-at, changed-other, changed-none, changed-more, inside, below, above}
 
@@ -107,3 +109,22 @@ first-place w from h = sym (ap (_% w) {x = from + 0} {y = from} (omega arith) �
 -- a span of one number is its place
 pub span-one : (w at : ℕ) (value : Bool) (xs : List Bool) → at < w → spanSet w at 1 value xs ≡ set xs at value
 span-one w at value xs h = sym (span-turn-at w at 0 at value xs xs h (omega arith) (first-place w at h) (span-start w at value xs))
+
+-- `count` places round the ring are two spans: to the ring's end, and from place 0 on the `over` places beyond it
+module _ {A : Type 0} (w from count over : ℕ) (h : from < w) (k : count ≤ w) (e : over ≡ from + count - w) (f : ℕ → A) where
+  pub round-tab : tab count (λ i. f ((from + i) % w)) ≡ tab (count - over) (λ i. f (from + i)) ++ tab over f
+  round-tab =
+      split-tab (count - over) count (λ i. f ((from + i) % w)) (omega arith)
+      ∙ ap₂ _++_ (tab-ext (count - over) _ _ (λ i j. ap f (mod-eq-of-lt (omega arith))))
+      (ap (λ n. tab n (λ i. f ((from + (count - over + i)) % w))) {x = count - (count - over)} {y = over} (omega arith)
+      ∙ tab-ext over _ f (λ i j. ap f (mod-once (from + (count - over + i)) w (omega arith) (omega arith) ∙ omega arith)))
+
+  -- a test of each, gathered from the two spans
+  pub round-all : (p : A → Bool) (a b r : Bool) → a ≡ all p (tab (from + count - over - from) (λ i. f (from + i)))
+      → b ≡ all p (tab (over - 0) (λ i. f (0 + i))) → r ≡ (a && b) → r ≡ all p (tab count (λ i. f ((from + i) % w)))
+  round-all p a b r q s t =
+      t
+      ∙ ap₂ _&&_ (q ∙ ap (λ n. all p (tab n (λ i. f (from + i)))) {x = from + count - over - from} {y = count - over} (omega arith))
+      (s ∙ ap (λ n. all p (tab n (λ i. f (0 + i)))) {x = over - 0} {y = over} (omega arith) ∙ ap (all p) (tab-ext over _ f (λ i j. ap f {x = 0 + i} {y = i} (omega arith))))
+      ∙ sym (all-append p (tab (count - over) (λ i. f (from + i))) (tab over f))
+      ∙ ap (all p) (sym round-tab)

@@ -1,68 +1,58 @@
-use Rattle.rows.proofs.Laws.Places.{first-place, next-place, next-below}
+use Rattle.rows.proofs.Laws.Places.{round-all}
+use Rattle.rows.proofs.Laws.Cells.{legal-part}
 use Rattle.limits.specs.Cells.{rowAt, legalRow}
-use Rattle.limits.proofs.Laws.Lists.{all-start, all-end, all-more, all-tab-no}
-use Rattle.limits.specs.Lists.{tab, all}
-use mathlib.Core.Bool.{true}
-use mathlib.Core.Path.{_≡_, sym, _∙_, ap}
-use Prim.Native.Nat.{_+_, _-_, _%_, _≤_, _<_}
-use native.Mathlib.Omega.{arith}
+use mathlib.Core.Path.{_∙_}
 use borrow.Author.Needs.{needs}
 use Rattle.mat.proofs.soundmat.legal_rows.Statement.{statement}
 use Rattle.mat.proofs.soundmat.legal_rows.Tie as tie
 
-abbrev Inv-loop : tie.InvT-loop
-Inv-loop cells w from count at₀ i₀ at i = (i ≤ count) × (at ≡ (from + i) % w) × (at < w) × (all legalRow (tab i (λ k. rowAt cells ((from + k) % w))) ≡ true)
+add-beyond : tie.Need-add-beyond
+add-beyond c = search needs
 
-abbrev μ-loop : tie.MeasureT-loop
-μ-loop cells w from count at₀ i₀ at i = count - i
+beyond-requires : tie.Need-beyond-requires
+beyond-requires c κs = search needs
 
-loop-holds : tie.Need-loop-holds Inv-loop μ-loop
-loop-holds c = (search needs, first-place _ _ (c .pre .1), c .pre .1, all-start _ _)
+mul-legal-cells : tie.Need-mul-legal-cells
+mul-legal-cells c = search needs
 
-load-requires : tie.Need-load-requires Inv-loop μ-loop
-load-requires c κs = search needs
+add-legal-cells : tie.Need-add-legal-cells
+add-legal-cells c = search needs
 
-legal-row-requires : tie.Need-legal-row-requires Inv-loop μ-loop
-legal-row-requires c κs = search needs
+sub-legal-cells : tie.Need-sub-legal-cells
+sub-legal-cells c = search needs
 
-after-requires : tie.Need-after-requires Inv-loop μ-loop
-after-requires c κs = search needs
+mul-legal-cells-2 : tie.Need-mul-legal-cells-2
+mul-legal-cells-2 c = search needs
 
-add-i : tie.Need-add-i Inv-loop μ-loop
-add-i c = omega arith
+legal-cells-requires : tie.Need-legal-cells-requires
+legal-cells-requires c κs = search needs
 
-loop-less : tie.Need-loop-less Inv-loop μ-loop
-loop-less c = omega arith
+mul-legal-cells-3 : tie.Need-mul-legal-cells-3
+mul-legal-cells-3 c = search needs
 
-loop-again : tie.Need-loop-again Inv-loop μ-loop
-loop-again c = (
-  omega arith,
-  next-place _ _ _ _ _ (c .before .before .before .before .before .loop .inv .1) (c .after .ensures),
-  next-below _ _ _ (c .before .before .before .before .before .loop .inv .2) (c .after .ensures),
-  all-more legalRow _ _ (c .before .before .before .before .before .loop .inv .3) (ap (λ p. legalRow (rowAt (c .before .before .before .before .before .before .args .cells .now) p)) (sym (c .before .before .before .before .before .loop .inv .1))
-      ∙ ap legalRow (sym (c .before .before .before .load .ensures)) ∙ sym (c .before .before .legal-row .ensures) ∙ c .before .if1 .taken),
-)
+legal-cells-requires-2 : tie.Need-legal-cells-requires-2
+legal-cells-requires-2 c κs = search needs
 
-returns : tie.Need-returns Inv-loop μ-loop
-returns c = let h : c .before .before .before .before .loop .i < c .before .before .before .before .before .args .count = omega arith in
-    sym (all-tab-no legalRow _ _ _ h (ap (λ p. legalRow (rowAt (c .before .before .before .before .before .args .cells .now) p)) (sym (c .before .before .before .before .loop .inv .1))
-    ∙ ap legalRow (sym (c .before .before .load .ensures)) ∙ sym (c .before .legal-row .ensures) ∙ c .if1 .left))
+both-requires : tie.Need-both-requires
+both-requires c κs = search needs
 
-returns-2 : tie.Need-returns-2 Inv-loop μ-loop
-returns-2 c = all-end _ _ _ _ (c .before .loop .inv .3) (omega arith)
+returns : tie.Need-returns
+returns c = let s = c .before .before .before .before .before .before in let cells = s .args .cells .now in
+    round-all _ _ _ _ (s .pre .1) (s .pre .2) (c .before .before .before .before .before .beyond .ensures) (rowAt cells) legalRow _ _ _
+    (c .before .before .before .legal-cells .ensures ∙ legal-part cells (s .args .from) _) (c .before .legal-cells2 .ensures ∙ legal-part cells 0 _) (c .both .ensures)
 
 pub legal-rows-spec : {M : Type 1} → statement M
 legal-rows-spec =
     tie.close
     (tie.spec
-    Inv-loop
-    μ-loop
-    loop-holds
-    load-requires
-    legal-row-requires
-    after-requires
-    add-i
-    loop-less
-    loop-again
-    returns
-    returns-2)
+    add-beyond
+    beyond-requires
+    mul-legal-cells
+    add-legal-cells
+    sub-legal-cells
+    mul-legal-cells-2
+    legal-cells-requires
+    mul-legal-cells-3
+    legal-cells-requires-2
+    both-requires
+    returns)

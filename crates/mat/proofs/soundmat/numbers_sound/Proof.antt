@@ -1,33 +1,36 @@
-use Rattle.limits.proofs.Laws.Choice.{and-goes-on, and-stops}
-use borrow.Author.Tests.{lt-ltb, le-ltb}
-use lib.Dec.{leb}
-use mathlib.Core.Path.{_∙_, ap}
+use Rattle.limits.proofs.Laws.Choice.{pair-goes-on, pair-stops, two}
+use borrow.Author.Tests.{ltb-true}
+use lib.Dec.{leb, ltb}
+use mathlib.Core.Path.{sym, _∙_, ap}
+use Prim.Native.Nat.{_*_}
+use native.Mathlib.Omega.{arith}
 use borrow.Author.Needs.{needs}
 use Rattle.mat.proofs.soundmat.numbers_sound.Statement.{statement}
 use Rattle.mat.proofs.soundmat.numbers_sound.Tie as tie
 
-mul-if1 : tie.Need-mul-if1
-mul-if1 c = search needs
+mul-both : tie.Need-mul-both
+mul-both c = search needs
 
-mul-if2 : tie.Need-mul-if2
-mul-if2 c = search needs
+mul-both-2 : tie.Need-mul-both-2
+mul-both-2 c = search needs
+
+both-requires : tie.Need-both-requires
+both-requires c κs = search needs
 
 mul-gap : tie.Need-mul-gap
 mul-gap c = search needs
 
 gap-requires : tie.Need-gap-requires
-gap-requires c κs = search needs
+gap-requires c κs = let a = c .before .before .args in let t = two (ltb (a .oldest) (2 * a .w)) (ltb (a .next) (2 * a .w)) (sym (c .before .both .ensures) ∙ c .if1 .taken) in omega (arith, ltb-true)
 
 returns : tie.Need-returns
-returns c = ap (λ d. leb d (c .before .before .before .args .w)) (c .gap .ensures)
-    ∙ and-goes-on _ _ (lt-ltb _ _ (c .before .if2 .taken)) ∙ and-goes-on _ _ (lt-ltb _ _ (c .before .before .if1 .taken))
+returns c = let a = c .before .before .before .args in λ marks timers cells.
+    ap (λ d. leb d (a .w)) (c .gap .ensures) ∙ pair-goes-on (ltb (a .oldest) (2 * a .w)) (ltb (a .next) (2 * a .w)) _ _ (c .before .before .both .ensures) (c .before .if1 .taken)
 
 returns-2 : tie.Need-returns-2
-returns-2 c = and-stops _ _ (le-ltb _ _ (c .if2 .left)) ∙ and-goes-on _ _ (lt-ltb _ _ (c .before .if1 .taken))
-
-returns-3 : tie.Need-returns-3
-returns-3 c = and-stops _ _ (le-ltb _ _ (c .if1 .left))
+returns-2 c = let a = c .before .before .args in λ marks timers cells.
+    pair-stops (ltb (a .oldest) (2 * a .w)) (ltb (a .next) (2 * a .w)) _ _ (c .before .both .ensures) (c .if1 .left)
 
 pub numbers-sound-spec : {M : Type 1} → statement M
 numbers-sound-spec =
-    tie.close (tie.spec mul-if1 mul-if2 mul-gap gap-requires returns returns-2 returns-3)
+    tie.close (tie.spec mul-both mul-both-2 both-requires mul-gap gap-requires returns returns-2)

@@ -1,36 +1,35 @@
-use Rattle.mat.proofs.Laws.Sound.{numbers, legal-cells}
-use Rattle.rows.proofs.Laws.Places.{place-below}
+use Rattle.mat.proofs.Laws.Sound.{legal-cells}
+use Rattle.mat.specs.View.{matOf}
+use Rattle.rows.proofs.Laws.Places.{at-below}
 use Rattle.limits.proofs.Laws.Good.{good}
-use Rattle.limits.proofs.Laws.Choice.{and-goes-on, and-no-left}
-use mathlib.Core.Path.{sym, _∙_}
+use mathlib.Core.Bool.{_&&_}
+use mathlib.Core.Path.{_∙_, ap₂}
 use native.Mathlib.Omega.{arith}
+use borrow.Author.Needs.{needs}
 use Rattle.mat.proofs.soundmat.rows_sound.Statement.{statement}
 use Rattle.mat.proofs.soundmat.rows_sound.Tie as tie
 
 mul-gap : tie.Need-mul-gap
-mul-gap c = omega (arith, good _ (c .pre .0))
+mul-gap c = let g = good _ (c .pre .0) in omega arith
 
 gap-requires : tie.Need-gap-requires
-gap-requires c κs = omega (arith, good _ (c .pre .0), numbers _ (c .args .t2) (c .pre .1))
+gap-requires c κs = let g = good _ (c .pre .0) in omega arith
 
 at-most-requires : tie.Need-at-most-requires
-at-most-requires c κs = omega (arith, good _ (c .before .before .before .pre .0))
+at-most-requires c κs = let g = good _ (c .before .pre .0) in omega arith
 
 slot-requires : tie.Need-slot-requires
-slot-requires c κs = let s = c .before .before .before .before .before .before .before in omega (arith, good _ (s .pre .0), numbers _ (s .args .t2) (s .pre .1))
+slot-requires c κs = let g = good _ (c .before .before .pre .0) in omega arith
 
 legal-rows-requires : tie.Need-legal-rows-requires
-legal-rows-requires c κs = let s = c .before .before .before .before .before .before .before .before in let g = good _ (s .pre .0) in
-    omega (arith, g, c .slot .ensures, place-below _ (s .args .t2 .oldest) (g .window-low))
+legal-rows-requires c κs = let g = good _ (c .before .before .before .pre .0) in omega (arith, at-below _ _ _ (g .window-low) (c .slot .ensures))
+
+both-requires : tie.Need-both-requires
+both-requires c κs = search needs
 
 returns : tie.Need-returns
-returns c = let s = c .before .before .before .before .before .before .before .before .before in
-    c .legal-rows .ensures
-    ∙ legal-cells _ (s .args .t2) (numbers _ (s .args .t2) (s .pre .1)) _ _ (c .before .slot .ensures) (c .before .before .before .before .before .before .before .before .gap .ensures)
-    ∙ and-goes-on _ _ (sym (c .before .before .before .before .before .at-most .ensures) ∙ c .before .before .before .before .if1 .taken)
-
-returns-2 : tie.Need-returns-2
-returns-2 c = sym (and-no-left _ _ (sym (c .before .at-most .ensures) ∙ c .if1 .left))
+returns c = let s = c .before .before .before .before .before in λ marks. let m = matOf (s .args .oldest) (s .args .next) marks (s .args .timers .now) (s .args .cells .now) in
+    c .both .ensures ∙ ap₂ _&&_ (c .before .before .before .at-most .ensures) (c .before .legal-rows .ensures ∙ legal-cells _ m _ _ (c .before .before .slot .ensures) (c .before .before .before .before .gap .ensures))
 
 pub rows-sound-spec : {M : Type 1} → statement M
 rows-sound-spec =
@@ -41,5 +40,5 @@ rows-sound-spec =
     at-most-requires
     slot-requires
     legal-rows-requires
-    returns
-    returns-2)
+    both-requires
+    returns)

@@ -1,62 +1,44 @@
-use Rattle.rows.proofs.Laws.Places.{first-place, next-place, next-below}
-use mathlib.Core.Bool.{not, true, false}
-use Rattle.limits.proofs.Laws.Lists.{all-start, all-end, all-more, all-tab-no}
-use Rattle.limits.specs.Lists.{tab, all}
+use Rattle.rows.proofs.Laws.Places.{round-all}
 use lib.ListN.{getD}
-use mathlib.Core.Path.{_≡_, sym, _∙_, ap}
-use Prim.Native.Nat.{_+_, _-_, _%_, _≤_, _<_}
-use native.Mathlib.Omega.{arith}
+use mathlib.Core.Bool.{false, not}
 use borrow.Author.Needs.{needs}
 use Rattle.mat.proofs.soundmat.unmarked.Statement.{statement}
 use Rattle.mat.proofs.soundmat.unmarked.Tie as tie
 
-abbrev Inv-loop : tie.InvT-loop
-Inv-loop marks w from count at₀ i₀ at i = (i ≤ count) × (at ≡ (from + i) % w) × (at < w) × (all not (tab i (λ k. getD marks ((from + k) % w) false)) ≡ true)
+add-beyond : tie.Need-add-beyond
+add-beyond c = search needs
 
-abbrev μ-loop : tie.MeasureT-loop
-μ-loop marks w from count at₀ i₀ at i = count - i
+beyond-requires : tie.Need-beyond-requires
+beyond-requires c κs = search needs
 
-loop-holds : tie.Need-loop-holds Inv-loop μ-loop
-loop-holds c = (search needs, first-place _ _ (c .pre .1), c .pre .1, all-start _ _)
+add-none-set : tie.Need-add-none-set
+add-none-set c = search needs
 
-element-copy-out-if1 : tie.Need-element-copy-out-if1 Inv-loop μ-loop
-element-copy-out-if1 c = omega arith
+sub-none-set : tie.Need-sub-none-set
+sub-none-set c = search needs
 
-returns : tie.Need-returns Inv-loop μ-loop
-returns c = let h : c .before .before .before .loop .i < c .before .before .before .before .args .count = omega arith in
-    sym (all-tab-no not _ _ _ h (ap (λ p. not (getD (c .before .before .before .before .args .marks .now) p false)) (sym (c .before .before .before .loop .inv .1)) ∙ ap not (c .if1 .taken)))
+none-set-requires : tie.Need-none-set-requires
+none-set-requires c κs = search needs
 
-after-requires : tie.Need-after-requires Inv-loop μ-loop
-after-requires c κs = search needs
+none-set-requires-2 : tie.Need-none-set-requires-2
+none-set-requires-2 c κs = search needs
 
-add-i : tie.Need-add-i Inv-loop μ-loop
-add-i c = omega arith
+both-requires : tie.Need-both-requires
+both-requires c κs = search needs
 
-loop-less : tie.Need-loop-less Inv-loop μ-loop
-loop-less c = omega arith
-
-loop-again : tie.Need-loop-again Inv-loop μ-loop
-loop-again c = (
-  omega arith,
-  next-place _ _ _ _ _ (c .before .before .before .before .loop .inv .1) (c .after .ensures),
-  next-below _ _ _ (c .before .before .before .before .loop .inv .2) (c .after .ensures),
-  all-more not _ _ (c .before .before .before .before .loop .inv .3) (ap (λ p. not (getD (c .before .before .before .before .before .args .marks .now) p false)) (sym (c .before .before .before .before .loop .inv .1)) ∙ ap not (c .before .if1 .left)),
-)
-
-returns-2 : tie.Need-returns-2 Inv-loop μ-loop
-returns-2 c = all-end _ _ _ _ (c .before .loop .inv .3) (omega arith)
+returns : tie.Need-returns
+returns c = let s = c .before .before .before .before .before .before in
+    round-all _ _ _ _ (s .pre .1) (s .pre .2) (c .before .before .before .before .before .beyond .ensures) (λ i. getD (s .args .marks .now) i false) not _ _ _ (c .before .before .before .none-set .ensures) (c .before .none-set2 .ensures) (c .both .ensures)
 
 pub unmarked-spec : {M : Type 1} → statement M
 unmarked-spec =
     tie.close
     (tie.spec
-    Inv-loop
-    μ-loop
-    loop-holds
-    element-copy-out-if1
-    returns
-    after-requires
-    add-i
-    loop-less
-    loop-again
-    returns-2)
+    add-beyond
+    beyond-requires
+    add-none-set
+    sub-none-set
+    none-set-requires
+    none-set-requires-2
+    both-requires
+    returns)
