@@ -8,12 +8,13 @@ use Rattle.limits.specs.declared.Limits.{Limits}
 use Rattle.limits.specs.Questions.{Question, Answers, Called}
 use Rattle.limits.specs.Tables.{Message, Data, onBody, soundData}
 use Rattle.air.specs.declared.datatable.DataTable.{DataTable}
+use Rattle.air.specs.declared.changes.FoundData.{FoundData}
 use Rattle.air.specs.declared.messages.DataMessage.{DataMessage}
 use Rattle.air.specs.declared.datatable.DataAnswer.{DataAnswer}
 use Rattle.air.specs.declared.datatable.DataRead.{DataRead}
 use Rattle.tables.specs.Words.{messages}
 use Rattle.air.specs.Kinds.{dataOf}
-use Rattle.air.specs.Rules.{soundMessage, soundMessages}
+use Rattle.air.specs.Rules.{placeQuestions, soundMessage, soundMessages}
 
 -- the table of a count and its words
 abbrev pub dataTable : ℕ → List ℕ → DataTable
@@ -48,3 +49,8 @@ DataReading t p questions r = Answers questions (r .answer) (dataMessage (r .mes
 -- the table is sound and holds these messages
 abbrev pub DataHolds : Limits → DataTable → List (Message Data) → Type 0
 DataHolds l t ms = (soundDataTable l t ≡ true) × (dataMessages t ≡ ms)
+
+-- what finding message p gives: its answer, and what it carries or zeros
+abbrev pub DataFound : DataTable → ℕ → FoundData → Type 0
+DataFound t p r =
+    Answers (placeQuestions p (dataMessages t)) (r .answer) (record { number = r .number; row = r .row }) (getD (dataMessages t) p noData .body) (noData .body)

@@ -8,12 +8,13 @@ use Rattle.limits.specs.declared.Limits.{Limits}
 use Rattle.limits.specs.Questions.{Question, Answers, Called}
 use Rattle.limits.specs.Tables.{Message, Reply, onBody, soundReply}
 use Rattle.air.specs.declared.replytable.ReplyTable.{ReplyTable}
+use Rattle.air.specs.declared.changes.FoundReply.{FoundReply}
 use Rattle.air.specs.declared.messages.ReplyMessage.{ReplyMessage}
 use Rattle.air.specs.declared.replytable.ReplyAnswer.{ReplyAnswer}
 use Rattle.air.specs.declared.replytable.ReplyRead.{ReplyRead}
 use Rattle.tables.specs.Words.{messages}
 use Rattle.air.specs.Kinds.{replyOf}
-use Rattle.air.specs.Rules.{soundMessage, soundMessages}
+use Rattle.air.specs.Rules.{placeQuestions, soundMessage, soundMessages}
 
 -- the table of a count and its words
 abbrev pub replyTable : ℕ → List ℕ → ReplyTable
@@ -48,3 +49,8 @@ ReplyReading t p questions r = Answers questions (r .answer) (replyMessage (r .m
 -- the table is sound and holds these messages
 abbrev pub ReplyHolds : Limits → ReplyTable → List (Message Reply) → Type 0
 ReplyHolds l t ms = (soundReplyTable l t ≡ true) × (replyMessages t ≡ ms)
+
+-- what finding message p gives: its answer, and what it carries or zeros
+abbrev pub ReplyFound : ReplyTable → ℕ → FoundReply → Type 0
+ReplyFound t p r =
+    Answers (placeQuestions p (replyMessages t)) (r .answer) (record { first = r .first; last = r .last }) (getD (replyMessages t) p noReply .body) (noReply .body)

@@ -1,5 +1,5 @@
-// Inner: called by the events of a link. What an event does to a lent table that passed question 4, by the kind of its
-// messages. Each gives how many messages the table then has.
+// Inner: called by the events of a link. What an event finds in a lent table that passed question 4 and does to it, by the kind of
+// its messages. What changes a table gives how many messages it then has.
 ghost use mathlib.Core.Path.{_≡_};
 ghost use mathlib.Core.Bool.{true};
 ghost use Prim.Native.Nat.{_*_, _<_, _≤_};
@@ -7,12 +7,75 @@ ghost use Rattle.limits.specs.declared.Limits.{Limits};
 ghost use Rattle.limits.specs.Limits.{soundLimits};
 ghost use Rattle.limits.specs.Cells.{legalRow};
 ghost use Rattle.limits.specs.Tables.{put, remove, age, soundReply};
-ghost use Rattle.air.specs.Data.{dataTable, dataMessages, soundDataTable, DataHolds};
-ghost use Rattle.air.specs.Replies.{replyTable, replyMessages, soundReplyTable, ReplyHolds};
+ghost use Rattle.air.specs.Data.{dataTable, dataMessages, soundDataTable, DataHolds, DataFound};
+ghost use Rattle.air.specs.Replies.{replyTable, replyMessages, soundReplyTable, ReplyHolds, ReplyFound};
 use crate::messages;
 use crate::messages::DataMessage;
 use crate::messages::ReplyMessage;
 use limits::Limits;
+use limits::answer::Answer;
+
+// The answer, and what the message carries or zeros.
+pub struct FoundData {
+    pub answer: Answer,
+    pub number: usize,
+    pub row: [u16; 16],
+}
+
+pub struct FoundReply {
+    pub answer: Answer,
+    pub first: usize,
+    pub last: usize,
+}
+
+fn wide(x: u16) -> usize
+    ensures { λ r. ⌜ r ≡ x ⌝ }
+{
+    x as usize
+}
+
+// What message p carries: 17.
+pub fn find_data(count: usize, words: &[u16; 576], p: usize) -> FoundData
+    requires { ⌜ count ≤ 32 ⌝ }
+    ensures { λ r. ⌜ DataFound (dataTable count (now (words .entry))) p r ⌝ }
+{
+    if p < count {
+        let m = messages::data_at(words, p);
+        let row = m.row;
+        FoundData {
+            answer: Answer::Done,
+            number: wide(m.number),
+            row,
+        }
+    } else {
+        FoundData {
+            answer: Answer::NoMessage,
+            number: 0,
+            row: [0; 16],
+        }
+    }
+}
+
+// What reply p carries: 17.
+pub fn find_reply(count: usize, words: &[u16; 96], p: usize) -> FoundReply
+    requires { ⌜ count ≤ 32 ⌝ }
+    ensures { λ r. ⌜ ReplyFound (replyTable count (now (words .entry))) p r ⌝ }
+{
+    if p < count {
+        let m = messages::reply_at(words, p);
+        FoundReply {
+            answer: Answer::Done,
+            first: wide(m.first),
+            last: wide(m.last),
+        }
+    } else {
+        FoundReply {
+            answer: Answer::NoMessage,
+            first: 0,
+            last: 0,
+        }
+    }
+}
 
 // A row goes into the air with a full life.
 pub fn put_data(

@@ -3,8 +3,8 @@ use Prim.Native.Nat.{ℕ, _*_}
 use mathlib.Core.List.{List, [], _∷_, _++_}
 use lib.ListN.{take, drop}
 use Rattle.limits.specs.Events.{Event}
-use Rattle.link.specs.State.{Moved, added}
-use Rattle.link.specs.Rules.{answer, stepped}
+use Rattle.events.specs.State.{Moved, added}
+use Rattle.events.specs.Rules.{answer, stepped}
 
 abbrev pub supplyLeft : List ℕ → Moved → List ℕ
 supplyLeft supply x = drop (16 * x .counts .sent) supply

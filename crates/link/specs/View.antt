@@ -1,40 +1,23 @@
--- How the link's structs show its state, question 4 of a link, and what opening, one event and a run promise.
+-- What opening, one event and a run promise.
 use Prim.Native.Nat.{ℕ, _/_, _%_}
-use mathlib.Core.Bool.{Bool, _&&_}
 use mathlib.Core.List.{List, [], _∷_, _++_}
 use lib.Dec.{eqb, leb}
 use lib.ListN.{length, drop}
 use Rattle.limits.specs.declared.Limits.{Limits}
 use Rattle.limits.specs.Questions.{Question, ask, Answers, Called}
-use Rattle.limits.specs.Limits.{limitsQuestions, accepted, zeroLimits, soundLimits}
-use Rattle.limits.specs.Events.{Event, event, events}
-use Rattle.mat.specs.View.{matState, freshMat, soundMat}
-use Rattle.pad.specs.View.{padState, freshPad, soundPad}
-use Rattle.air.specs.Data.{dataMessages, emptyData, soundDataTable}
-use Rattle.air.specs.Replies.{replyMessages, emptyReplies, soundReplyTable}
-use Rattle.link.specs.declared.Link.{Link}
+use Rattle.limits.specs.Limits.{limitsQuestions, accepted, zeroLimits}
+use Rattle.limits.specs.Events.{event, events}
+use Rattle.mat.specs.View.{freshMat}
+use Rattle.pad.specs.View.{freshPad}
+use Rattle.air.specs.Data.{emptyData}
+use Rattle.air.specs.Replies.{emptyReplies}
+use Rattle.events.specs.declared.Link.{Link}
+use Rattle.events.specs.declared.Progress.{Progress}
+use Rattle.events.specs.State.{Moved, unmoved}
+use Rattle.events.specs.Rules.{questions, acted}
+use Rattle.events.specs.View.{linkState, soundLink, shown}
 use Rattle.link.specs.declared.Opening.{Opening}
-use Rattle.link.specs.declared.Progress.{Progress}
-use Rattle.link.specs.State.{LinkState, Moved, unmoved}
-use Rattle.link.specs.Rules.{questions, acted}
 use Rattle.link.specs.Runs.{afterAll, answers}
-
-unfoldable pub linkState : Link → LinkState
-linkState k =
-    record {
-      limits = k .limits;
-      mat = matState (k .limits .window) (k .mat);
-      pad = padState (k .limits .window) (k .pad);
-      datas = dataMessages (k .datas);
-      replies = replyMessages (k .replies);
-    }
-
--- question 4
-unfoldable pub soundLink : Link → Bool
-soundLink k =
-    soundLimits (k .limits)
-    && (soundMat (k .limits) (k .mat)
-    && (soundPad (k .limits) (k .pad) && (soundDataTable (k .limits) (k .datas) && soundReplyTable (k .limits) (k .replies))))
 
 abbrev pub freshLink : Limits → Link
 freshLink l = record { limits = l; mat = freshMat; pad = freshPad; datas = emptyData; replies = emptyReplies }
@@ -43,17 +26,8 @@ freshLink l = record { limits = l; mat = freshMat; pad = freshPad; datas = empty
 abbrev pub Opened : Limits → Opening → Type 0
 Opened asked r = Answers (limitsQuestions asked) (r .answer) (r .link) (freshLink (accepted asked)) (freshLink zeroLimits)
 
-abbrev pub shown : Progress → List ℕ → Moved
-shown r buffer = record { state = linkState (r .link); counts = r .counts; buffer = buffer }
-
 abbrev pub wholeRows : List ℕ → List Question
 wholeRows supply = ask 6 (eqb (length supply % 16) 0) ∷ []
-
--- What an event of a sound link promises. `before` and `after` are the record's contents at entry and at exit.
-abbrev pub Moves : Link → List ℕ → List ℕ → List ℕ → Event → Progress → Type 0
-Moves k supply before after e r =
-    Called (questions supply (length before) (linkState k) e) (r .answer) (shown r after) (acted supply before (linkState k) e) (unmoved (linkState k) before)
-    soundLink k (r .link)
 
 -- The call for one event: 4, 6, and the event's own questions.
 abbrev pub Stepped : Link → ℕ → ℕ → List ℕ → List ℕ → List ℕ → Progress → Type 0

@@ -4,20 +4,28 @@ use mathlib.Core.Path.{_≡_, sym, _∙_, ap}
 use mathlib.Core.Bool.{Bool, true}
 use mathlib.Core.List.{List, map}
 use native.Mathlib.Omega.{arith}
+use lib.Dec.{eqb}
 use lib.ListN.{length, length-map}
 use Rattle.limits.specs.declared.Limits.{Limits}
+use Rattle.limits.specs.declared.answer.Answer.the-variants.{Done, NoMessage}
+use Rattle.limits.specs.Answer.{numberOf}
 use Rattle.limits.specs.Limits.{soundLimits}
 use Rattle.limits.specs.Tables.{Message, Data, Reply, onBody, put, remove, age, soundData, soundReply}
 use Rattle.limits.proofs.Laws.Choice.{both}
 use Rattle.limits.proofs.Laws.Good.{good, in-between}
 use Rattle.limits.proofs.Laws.Mapped.{table-put, table-remove, table-age}
-use Rattle.tables.specs.Words.{messageOf, messages}
+use Rattle.limits.proofs.Laws.Promise.{answers-done, answers-refused}
+use Rattle.tables.specs.Words.{messageOf, messageAt, messages}
+use Rattle.air.specs.declared.changes.FoundData.{FoundData}
+use Rattle.air.specs.declared.changes.FoundReply.{FoundReply}
+use Rattle.air.specs.declared.messages.DataMessage.{DataMessage}
+use Rattle.air.specs.declared.messages.ReplyMessage.{ReplyMessage}
 use Rattle.air.specs.Rules.{soundMessage, soundMessages}
 use Rattle.air.specs.Kinds.{dataOf, replyOf}
-use Rattle.air.specs.Data.{dataTable, dataMessages, soundDataMessage, soundDataTable, DataHolds}
-use Rattle.air.specs.Replies.{replyTable, replyMessages, soundReplyMessage, soundReplyTable, ReplyHolds}
-use Rattle.air.proofs.Laws.Sound.{put-sound, remove-sound, age-sound}
-use Rattle.air.proofs.Laws.Typed.{length-messages}
+use Rattle.air.specs.Data.{dataTable, dataMessages, soundDataMessage, soundDataTable, dataMessage, noData, DataHolds, DataFound}
+use Rattle.air.specs.Replies.{replyTable, replyMessages, soundReplyMessage, soundReplyTable, replyMessage, noReply, ReplyHolds, ReplyFound}
+use Rattle.air.proofs.Laws.Sound.{place-passed, place-refused, put-sound, remove-sound, age-sound}
+use Rattle.air.proofs.Laws.Typed.{length-messages, length-data, length-replies, data-at, reply-at}
 
 -- a message put with its full life is sound
 pub full-data : (l : Limits) (x : Data) → soundLimits l ≡ true → soundData l x ≡ true → soundDataMessage l (record { body = x; life = l .datalife }) ≡ true
@@ -86,3 +94,25 @@ module _ (l : Limits) (n : ℕ) (words next : List ℕ) (s : soundReplyTable l (
   pub reply-age-holds : (d left : ℕ) → messages 3 left next ≡ age d (messages 3 n words) → ReplyHolds l (replyTable left next) (age d (replyMessages (replyTable n words)))
   unfolding soundReplyTable replyMessages
   reply-age-holds d left e = age-holds replyOf (soundReply l) (l .replylife) 3 n words next s d left e
+
+-- a message found, and none
+module _ (n : ℕ) (words : List ℕ) (p : ℕ) where
+  pub data-found : (r : FoundData) (m : DataMessage) → r .answer ≡ Done → p < n → dataMessage m ≡ onBody dataOf (messageAt 18 words p) → r .number ≡ m .number → r .row ≡ m .row
+      → DataFound (dataTable n words) p r
+  data-found r m e h is a b =
+      answers-done _ (r .answer) _ _ _ (ap numberOf e ∙ place-passed (dataMessages (dataTable n words)) n (length-data n words) p h) (ap numberOf e)
+      ((λ i. record { number = a i; row = b i }) ∙ ap (λ (x : Message Data). x .body) (is ∙ data-at n words p h))
+
+  pub data-none : (r : FoundData) → r .answer ≡ NoMessage → n ≤ p → record { number = r .number; row = r .row } ≡ noData .body → DataFound (dataTable n words) p r
+  data-none r e h is =
+      answers-refused _ (r .answer) _ _ _ (ap numberOf e ∙ place-refused (dataMessages (dataTable n words)) n (length-data n words) p h) (ap (λ a. eqb (numberOf a) 0) e) is
+
+  pub reply-found : (r : FoundReply) (m : ReplyMessage) → r .answer ≡ Done → p < n → replyMessage m ≡ onBody replyOf (messageAt 3 words p) → r .first ≡ m .first → r .last ≡ m .last
+      → ReplyFound (replyTable n words) p r
+  reply-found r m e h is a b =
+      answers-done _ (r .answer) _ _ _ (ap numberOf e ∙ place-passed (replyMessages (replyTable n words)) n (length-replies n words) p h) (ap numberOf e)
+      ((λ i. record { first = a i; last = b i }) ∙ ap (λ (x : Message Reply). x .body) (is ∙ reply-at n words p h))
+
+  pub reply-none : (r : FoundReply) → r .answer ≡ NoMessage → n ≤ p → record { first = r .first; last = r .last } ≡ noReply .body → ReplyFound (replyTable n words) p r
+  reply-none r e h is =
+      answers-refused _ (r .answer) _ _ _ (ap numberOf e ∙ place-refused (replyMessages (replyTable n words)) n (length-replies n words) p h) (ap (λ a. eqb (numberOf a) 0) e) is

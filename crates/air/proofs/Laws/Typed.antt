@@ -110,3 +110,12 @@ reply-at n words p h =
     sym
     (table-at (onBody replyOf) (tab n (messageAt 3 words)) p (messageAt 3 words p) noReply (let l = length-tab n (messageAt 3 words) in omega arith)
     ∙ ap (onBody replyOf) (getD-tab n (messageAt 3 words) p _ h))
+
+-- a sound table has at most 32 messages
+pub data-count : (l : Limits) (t : DataTable) → soundDataTable l t ≡ true → t .count ≤ 32
+unfolding soundDataTable
+data-count l t e = let h = sound-few (soundData l) (l .datalife) (dataMessages t) e in let k = length-data (t .count) (t .words) in omega arith
+
+pub reply-count : (l : Limits) (t : ReplyTable) → soundReplyTable l t ≡ true → t .count ≤ 32
+unfolding soundReplyTable
+reply-count l t e = let h = sound-few (soundReply l) (l .replylife) (replyMessages t) e in let k = length-replies (t .count) (t .words) in omega arith

@@ -16,7 +16,7 @@ empty-requires-2 : tie.Need-empty-requires-2
 empty-requires-2 c κs = search needs
 
 returns : tie.Need-returns
-returns c = link-fresh _ _ _ _ _ (c .before .before .before .fresh .ensures) (c .before .before .fresh2 .ensures) (c .before .empty .ensures) (c .empty2 .ensures)
+returns c = link-fresh _ _ _ _ _ (@fresh .ensures) (@fresh2 .ensures) (@empty .ensures) (@empty2 .ensures)
 
 pub fresh-spec : {M : Type 1} → statement M
 fresh-spec =

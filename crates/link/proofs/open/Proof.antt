@@ -11,7 +11,7 @@ fresh-requires : tie.Need-fresh-requires
 fresh-requires c κs = search needs
 
 returns : tie.Need-returns
-returns c = answers-under freshLink _ _ _ _ _ _ (c .fresh .ensures) (c .before .before .accept .ensures)
+returns c = answers-under freshLink _ _ _ _ _ _ (@fresh .ensures) (@accept .ensures)
 
 pub open-spec : {M : Type 1} → statement M
 open-spec = tie.close (tie.spec accept-requires fresh-requires returns)

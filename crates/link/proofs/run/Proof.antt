@@ -8,7 +8,7 @@ sound-requires : tie.Need-sound-requires
 sound-requires c κs = search needs
 
 run-requires : tie.Need-run-requires
-run-requires c κs = let f = c .before .before in let s = f .before .before .before .before in (sym (s .sound .ensures) ∙ f .before .before .before .if1 .taken, f .before .before .if2 .taken, f .if4 .taken)
+run-requires c κs = let f = @@if4 in let s = f .before .before .before .before in (sym (s .sound .ensures) ∙ f .before .before .before .if1 .taken, f .before .before .if2 .taken, f .if4 .taken)
 
 stays-requires : tie.Need-stays-requires
 stays-requires c κs = search needs
@@ -29,24 +29,24 @@ same-length-2 : tie.Need-same-length-2
 same-length-2 c = search needs
 
 returns : tie.Need-returns
-returns c = let r = c .before .before .before .before .before .before in let f = r .before .before .before in let s = f .before .before .before .before in
+returns c = let r = @@run in let f = r .before .before .before in let s = f .before .before .before .before in
     run-done _ (s .before .before .before .before .before .args .events .now) _ _ _ _ (sym (s .sound .ensures) ∙ f .before .before .before .if1 .taken) (f .before .before .if2 .taken) (f .before .if3 .taken) _ _ (f .if4 .taken) (refl, r .run .ensures .0, r .run .ensures .1)
 
 returns-2 : tie.Need-returns-2
-returns-2 c = let f = c .before in let s = f .before .before .before .before in
-    run-short _ (s .before .before .before .before .before .args .events .now) _ _ _ _ (sym (s .sound .ensures) ∙ f .before .before .before .if1 .taken) (f .before .before .if2 .taken) (f .before .if3 .taken) (f .if4 .left) (c .stays .ensures)
+returns-2 c = let f = @@if4 in let s = f .before .before .before .before in
+    run-short _ (s .before .before .before .before .before .args .events .now) _ _ _ _ (sym (s .sound .ensures) ∙ f .before .before .before .if1 .taken) (f .before .before .if2 .taken) (f .before .if3 .taken) (f .if4 .left) (@stays .ensures)
 
 returns-3 : tie.Need-returns-3
-returns-3 c = let f = c .before in let s = f .before .before .before in
-    run-partial _ (s .before .before .before .before .before .args .events .now) _ _ _ _ (sym (s .sound .ensures) ∙ f .before .before .if1 .taken) (f .before .if2 .taken) (f .if3 .left) (c .stays2 .ensures)
+returns-3 c = let f = @@if3 in let s = f .before .before .before in
+    run-partial _ (s .before .before .before .before .before .args .events .now) _ _ _ _ (sym (s .sound .ensures) ∙ f .before .before .if1 .taken) (f .before .if2 .taken) (f .if3 .left) (@stays2 .ensures)
 
 returns-4 : tie.Need-returns-4
-returns-4 c = let f = c .before in let s = f .before .before in
-    run-odd _ (s .before .before .before .before .before .args .events .now) _ _ _ _ (sym (s .sound .ensures) ∙ f .before .if1 .taken) (f .if2 .left) (c .stays3 .ensures)
+returns-4 c = let f = @@if2 in let s = f .before .before in
+    run-odd _ (s .before .before .before .before .before .args .events .now) _ _ _ _ (sym (s .sound .ensures) ∙ f .before .if1 .taken) (f .if2 .left) (@stays3 .ensures)
 
 returns-5 : tie.Need-returns-5
-returns-5 c = let f = c .before in let s = f .before in
-    run-unsound _ (s .before .before .before .before .before .args .events .now) _ _ _ _ (sym (s .sound .ensures) ∙ f .if1 .left) (c .stays4 .ensures)
+returns-5 c = let f = @@if1 in let s = f .before in
+    run-unsound _ (s .before .before .before .before .before .args .events .now) _ _ _ _ (sym (s .sound .ensures) ∙ f .if1 .left) (@stays4 .ensures)
 
 pub run-spec : {M : Type 1} → statement M
 run-spec =

@@ -10,15 +10,15 @@ sound-limits-requires : tie.Need-sound-limits-requires
 sound-limits-requires c κs = search needs
 
 parts-sound-requires : tie.Need-parts-sound-requires
-parts-sound-requires c κs = sym (c .before .sound-limits .ensures) ∙ c .if1 .taken
+parts-sound-requires c κs = sym (@sound-limits .ensures) ∙ @if1 .taken
 
 returns : tie.Need-returns
 unfolding soundLink
-returns c = c .parts-sound .ensures ∙ and-goes-on (soundLimits (c .before .before .before .before .args .k .limits)) _ (sym (c .before .before .sound-limits .ensures) ∙ c .before .if1 .taken)
+returns c = @parts-sound .ensures ∙ and-goes-on (soundLimits (@args .k .limits)) _ (sym (@sound-limits .ensures) ∙ @if1 .taken)
 
 returns-2 : tie.Need-returns-2
 unfolding soundLink
-returns-2 c = c .before .sound-limits .ensures ∙ and-stops (soundLimits (c .before .before .before .args .k .limits)) _ (sym (c .before .sound-limits .ensures) ∙ c .if1 .left)
+returns-2 c = @sound-limits .ensures ∙ and-stops (soundLimits (@args .k .limits)) _ (sym (@sound-limits .ensures) ∙ @if1 .left)
 
 pub sound-spec : {M : Type 1} → statement M
 sound-spec = tie.close (tie.spec sound-limits-requires parts-sound-requires returns returns-2)

@@ -8,7 +8,7 @@ sound-requires : tie.Need-sound-requires
 sound-requires c κs = search needs
 
 event-requires : tie.Need-event-requires
-event-requires c κs = sym (c .before .before .before .sound .ensures) ∙ c .before .before .if1 .taken
+event-requires c κs = sym (@sound .ensures) ∙ @if1 .taken
 
 stays-requires : tie.Need-stays-requires
 stays-requires c κs = search needs
@@ -20,14 +20,14 @@ same-length : tie.Need-same-length
 same-length c = search needs
 
 returns : tie.Need-returns
-returns c = let e = c .before .before .before .before in let s = e .before .before in
-    step-asked _ _ _ _ _ _ (sym (s .sound .ensures) ∙ e .before .if1 .taken) _ (e .if2 .taken) (c .before .before .event .ensures)
+returns c = let e = @@if2 in let s = e .before .before in
+    step-asked _ _ _ _ _ _ (sym (s .sound .ensures) ∙ e .before .if1 .taken) _ (e .if2 .taken) (@event .ensures)
 
 returns-2 : tie.Need-returns-2
-returns-2 c = step-partial _ _ _ _ _ _ (sym (c .before .before .before .sound .ensures) ∙ c .before .before .if1 .taken) (c .before .if2 .left) (c .stays .ensures)
+returns-2 c = step-partial _ _ _ _ _ _ (sym (@sound .ensures) ∙ @if1 .taken) (@if2 .left) (@stays .ensures)
 
 returns-3 : tie.Need-returns-3
-returns-3 c = step-unsound _ _ _ _ _ _ (sym (c .before .before .sound .ensures) ∙ c .before .if1 .left) (c .stays2 .ensures)
+returns-3 c = step-unsound _ _ _ _ _ _ (sym (@sound .ensures) ∙ @if1 .left) (@stays2 .ensures)
 
 pub step-spec : {M : Type 1} → statement M
 step-spec =

@@ -18,42 +18,42 @@ abbrev μ-loop : tie.MeasureT-loop
     count - i
 
 loop-holds : tie.Need-loop-holds Inv-loop μ-loop
-loop-holds c = let b = c .before .before .before .before in (omega arith, starts _ _ _ _ _ (b .pre .0), λ h. absurd (omega arith))
+loop-holds c = let b = @@args in (omega arith, starts _ _ _ _ _ (b .pre .0), λ h. absurd (omega arith))
 
 mul-sent : tie.Need-mul-sent Inv-loop μ-loop
-mul-sent c = let l = c .before .before in let b = c .before .before .before .before .before .before .before in let t = c .before .loop-test .taken in let g = l .loop .inv .1 in let r = room _ _ _ _ _ _ _ _ _ _ g t (b .pre .1) (b .pre .2) in
+mul-sent c = let l = @@loop in let b = @@args in let t = @loop-test .taken in let g = l .loop .inv .1 in let r = room _ _ _ _ _ _ _ _ _ _ g t (b .pre .1) (b .pre .2) in
     omega (arith, r .event, r .answer, r .sent, r .recorded, b .good .1 .1 .1 .1 .1 .1 .1 .1 .1 .1 .1 .1 .1 .1 .0, b .good .1 .1 .1 .1 .1 .1 .1 .1 .1 .1 .1 .1 .1 .1 .1 .0, b .good .1 .1 .1 .1 .1 .1 .1 .1 .1 .1 .1 .1 .1 .1 .1 .1 .0, b .good .1 .1 .1 .1 .1 .1 .1 .1 .1 .1 .1 .1 .1 .1 .1 .1 .1)
 
 mul-recorded : tie.Need-mul-recorded Inv-loop μ-loop
-mul-recorded c = let l = c .before .before .before in let b = c .before .before .before .before .before .before .before .before in let t = c .before .before .loop-test .taken in let g = l .loop .inv .1 in let r = room _ _ _ _ _ _ _ _ _ _ g t (b .pre .1) (b .pre .2) in
+mul-recorded c = let l = @@loop in let b = @@args in let t = @loop-test .taken in let g = l .loop .inv .1 in let r = room _ _ _ _ _ _ _ _ _ _ g t (b .pre .1) (b .pre .2) in
     omega (arith, r .event, r .answer, r .sent, r .recorded, b .good .1 .1 .1 .1 .1 .1 .1 .1 .1 .1 .1 .1 .1 .1 .0, b .good .1 .1 .1 .1 .1 .1 .1 .1 .1 .1 .1 .1 .1 .1 .1 .0, b .good .1 .1 .1 .1 .1 .1 .1 .1 .1 .1 .1 .1 .1 .1 .1 .1 .0, b .good .1 .1 .1 .1 .1 .1 .1 .1 .1 .1 .1 .1 .1 .1 .1 .1 .1)
 
 mul-event : tie.Need-mul-event Inv-loop μ-loop
-mul-event c = let l = c .before .before .before .before .before .before .before .before .before .before .before .before .before .before .before in let b = c .before .before .before .before .before .before .before .before .before .before .before .before .before .before .before .before .before .before .before .before in let t = c .before .before .before .before .before .before .before .before .before .before .before .before .before .before .loop-test .taken in let g = l .loop .inv .1 in let r = room _ _ _ _ _ _ _ _ _ _ g t (b .pre .1) (b .pre .2) in
+mul-event c = let l = @@loop in let b = @@args in let t = @loop-test .taken in let g = l .loop .inv .1 in let r = room _ _ _ _ _ _ _ _ _ _ g t (b .pre .1) (b .pre .2) in
     omega (arith, r .event, r .answer, r .sent, r .recorded, b .good .1 .1 .1 .1 .1 .1 .1 .1 .1 .1 .1 .1 .1 .1 .0, b .good .1 .1 .1 .1 .1 .1 .1 .1 .1 .1 .1 .1 .1 .1 .1 .0, b .good .1 .1 .1 .1 .1 .1 .1 .1 .1 .1 .1 .1 .1 .1 .1 .1 .0, b .good .1 .1 .1 .1 .1 .1 .1 .1 .1 .1 .1 .1 .1 .1 .1 .1 .1)
 
 shared-slice-read-event : tie.Need-shared-slice-read-event Inv-loop μ-loop
-shared-slice-read-event c = let l = c .before .before .before .before .before .before .before .before .before .before .before .before .before .before .before .before in let b = c .before .before .before .before .before .before .before .before .before .before .before .before .before .before .before .before .before .before .before .before .before in let t = c .before .before .before .before .before .before .before .before .before .before .before .before .before .before .before .loop-test .taken in let g = l .loop .inv .1 in let r = room _ _ _ _ _ _ _ _ _ _ g t (b .pre .1) (b .pre .2) in
+shared-slice-read-event c = let l = @@loop in let b = @@args in let t = @loop-test .taken in let g = l .loop .inv .1 in let r = room _ _ _ _ _ _ _ _ _ _ g t (b .pre .1) (b .pre .2) in
     omega (arith, r .event, r .answer, r .sent, r .recorded, b .good .1 .1 .1 .1 .1 .1 .1 .1 .1 .1 .1 .1 .1 .1 .0, b .good .1 .1 .1 .1 .1 .1 .1 .1 .1 .1 .1 .1 .1 .1 .1 .0, b .good .1 .1 .1 .1 .1 .1 .1 .1 .1 .1 .1 .1 .1 .1 .1 .1 .0, b .good .1 .1 .1 .1 .1 .1 .1 .1 .1 .1 .1 .1 .1 .1 .1 .1 .1)
 
 mul-event-2 : tie.Need-mul-event-2 Inv-loop μ-loop
-mul-event-2 c = let l = c .before .before .before .before .before .before .before .before .before .before .before .before .before .before .before .before in let b = c .before .before .before .before .before .before .before .before .before .before .before .before .before .before .before .before .before .before .before .before .before in let t = c .before .before .before .before .before .before .before .before .before .before .before .before .before .before .before .loop-test .taken in let g = l .loop .inv .1 in let r = room _ _ _ _ _ _ _ _ _ _ g t (b .pre .1) (b .pre .2) in
+mul-event-2 c = let l = @@loop in let b = @@args in let t = @loop-test .taken in let g = l .loop .inv .1 in let r = room _ _ _ _ _ _ _ _ _ _ g t (b .pre .1) (b .pre .2) in
     omega (arith, r .event, r .answer, r .sent, r .recorded, b .good .1 .1 .1 .1 .1 .1 .1 .1 .1 .1 .1 .1 .1 .1 .0, b .good .1 .1 .1 .1 .1 .1 .1 .1 .1 .1 .1 .1 .1 .1 .1 .0, b .good .1 .1 .1 .1 .1 .1 .1 .1 .1 .1 .1 .1 .1 .1 .1 .1 .0, b .good .1 .1 .1 .1 .1 .1 .1 .1 .1 .1 .1 .1 .1 .1 .1 .1 .1)
 
 add-event : tie.Need-add-event Inv-loop μ-loop
-add-event c = let l = c .before .before .before .before .before .before .before .before .before .before .before .before .before .before .before .before in let b = c .before .before .before .before .before .before .before .before .before .before .before .before .before .before .before .before .before .before .before .before .before in let t = c .before .before .before .before .before .before .before .before .before .before .before .before .before .before .before .loop-test .taken in let g = l .loop .inv .1 in let r = room _ _ _ _ _ _ _ _ _ _ g t (b .pre .1) (b .pre .2) in
+add-event c = let l = @@loop in let b = @@args in let t = @loop-test .taken in let g = l .loop .inv .1 in let r = room _ _ _ _ _ _ _ _ _ _ g t (b .pre .1) (b .pre .2) in
     omega (arith, r .event, r .answer, r .sent, r .recorded, b .good .1 .1 .1 .1 .1 .1 .1 .1 .1 .1 .1 .1 .1 .1 .0, b .good .1 .1 .1 .1 .1 .1 .1 .1 .1 .1 .1 .1 .1 .1 .1 .0, b .good .1 .1 .1 .1 .1 .1 .1 .1 .1 .1 .1 .1 .1 .1 .1 .1 .0, b .good .1 .1 .1 .1 .1 .1 .1 .1 .1 .1 .1 .1 .1 .1 .1 .1 .1)
 
 shared-slice-read-event-2 : tie.Need-shared-slice-read-event-2 Inv-loop μ-loop
-shared-slice-read-event-2 c = let l = c .before .before .before .before .before .before .before .before .before .before .before .before .before .before .before .before .before in let b = c .before .before .before .before .before .before .before .before .before .before .before .before .before .before .before .before .before .before .before .before .before .before in let t = c .before .before .before .before .before .before .before .before .before .before .before .before .before .before .before .before .loop-test .taken in let g = l .loop .inv .1 in let r = room _ _ _ _ _ _ _ _ _ _ g t (b .pre .1) (b .pre .2) in
+shared-slice-read-event-2 c = let l = @@loop in let b = @@args in let t = @loop-test .taken in let g = l .loop .inv .1 in let r = room _ _ _ _ _ _ _ _ _ _ g t (b .pre .1) (b .pre .2) in
     omega (arith, r .event, r .answer, r .sent, r .recorded, b .good .1 .1 .1 .1 .1 .1 .1 .1 .1 .1 .1 .1 .1 .1 .0, b .good .1 .1 .1 .1 .1 .1 .1 .1 .1 .1 .1 .1 .1 .1 .1 .0, b .good .1 .1 .1 .1 .1 .1 .1 .1 .1 .1 .1 .1 .1 .1 .1 .1 .0, b .good .1 .1 .1 .1 .1 .1 .1 .1 .1 .1 .1 .1 .1 .1 .1 .1 .1)
 
 mul-event-3 : tie.Need-mul-event-3 Inv-loop μ-loop
-mul-event-3 c = let l = c .before .before .before .before .before .before .before .before .before .before .before .before .before .before .before .before .before in let b = c .before .before .before .before .before .before .before .before .before .before .before .before .before .before .before .before .before .before .before .before .before .before in let t = c .before .before .before .before .before .before .before .before .before .before .before .before .before .before .before .before .loop-test .taken in let g = l .loop .inv .1 in let r = room _ _ _ _ _ _ _ _ _ _ g t (b .pre .1) (b .pre .2) in
+mul-event-3 c = let l = @@loop in let b = @@args in let t = @loop-test .taken in let g = l .loop .inv .1 in let r = room _ _ _ _ _ _ _ _ _ _ g t (b .pre .1) (b .pre .2) in
     omega (arith, r .event, r .answer, r .sent, r .recorded, b .good .1 .1 .1 .1 .1 .1 .1 .1 .1 .1 .1 .1 .1 .1 .0, b .good .1 .1 .1 .1 .1 .1 .1 .1 .1 .1 .1 .1 .1 .1 .1 .0, b .good .1 .1 .1 .1 .1 .1 .1 .1 .1 .1 .1 .1 .1 .1 .1 .1 .0, b .good .1 .1 .1 .1 .1 .1 .1 .1 .1 .1 .1 .1 .1 .1 .1 .1 .1)
 
 sub-event : tie.Need-sub-event Inv-loop μ-loop
-sub-event c = let l = c .before .before .before .before .before .before .before .before .before .before .before .before .before .before .before .before .before in let b = c .before .before .before .before .before .before .before .before .before .before .before .before .before .before .before .before .before .before .before .before .before .before in let t = c .before .before .before .before .before .before .before .before .before .before .before .before .before .before .before .before .loop-test .taken in let g = l .loop .inv .1 in let r = room _ _ _ _ _ _ _ _ _ _ g t (b .pre .1) (b .pre .2) in
+sub-event c = let l = @@loop in let b = @@args in let t = @loop-test .taken in let g = l .loop .inv .1 in let r = room _ _ _ _ _ _ _ _ _ _ g t (b .pre .1) (b .pre .2) in
     omega (arith, r .event, r .answer, r .sent, r .recorded, b .good .1 .1 .1 .1 .1 .1 .1 .1 .1 .1 .1 .1 .1 .1 .0, b .good .1 .1 .1 .1 .1 .1 .1 .1 .1 .1 .1 .1 .1 .1 .1 .0, b .good .1 .1 .1 .1 .1 .1 .1 .1 .1 .1 .1 .1 .1 .1 .1 .1 .0, b .good .1 .1 .1 .1 .1 .1 .1 .1 .1 .1 .1 .1 .1 .1 .1 .1 .1)
 
 part-event-start : tie.Need-part-event-start Inv-loop μ-loop
@@ -63,11 +63,11 @@ part-event-end : tie.Need-part-event-end Inv-loop μ-loop
 part-event-end c = search needs
 
 mul-event-4 : tie.Need-mul-event-4 Inv-loop μ-loop
-mul-event-4 c = let l = c .before .before .before .before .before .before .before .before .before .before .before .before .before .before .before .before .before .before in let b = c .before .before .before .before .before .before .before .before .before .before .before .before .before .before .before .before .before .before .before .before .before .before .before in let t = c .before .before .before .before .before .before .before .before .before .before .before .before .before .before .before .before .before .loop-test .taken in let g = l .loop .inv .1 in let r = room _ _ _ _ _ _ _ _ _ _ g t (b .pre .1) (b .pre .2) in
+mul-event-4 c = let l = @@loop in let b = @@args in let t = @loop-test .taken in let g = l .loop .inv .1 in let r = room _ _ _ _ _ _ _ _ _ _ g t (b .pre .1) (b .pre .2) in
     omega (arith, r .event, r .answer, r .sent, r .recorded, b .good .1 .1 .1 .1 .1 .1 .1 .1 .1 .1 .1 .1 .1 .1 .0, b .good .1 .1 .1 .1 .1 .1 .1 .1 .1 .1 .1 .1 .1 .1 .1 .0, b .good .1 .1 .1 .1 .1 .1 .1 .1 .1 .1 .1 .1 .1 .1 .1 .1 .0, b .good .1 .1 .1 .1 .1 .1 .1 .1 .1 .1 .1 .1 .1 .1 .1 .1 .1)
 
 sub-event-2 : tie.Need-sub-event-2 Inv-loop μ-loop
-sub-event-2 c = let l = c .before .before .before .before .before .before .before .before .before .before .before .before .before .before .before .before .before .before in let b = c .before .before .before .before .before .before .before .before .before .before .before .before .before .before .before .before .before .before .before .before .before .before .before in let t = c .before .before .before .before .before .before .before .before .before .before .before .before .before .before .before .before .before .loop-test .taken in let g = l .loop .inv .1 in let r = room _ _ _ _ _ _ _ _ _ _ g t (b .pre .1) (b .pre .2) in
+sub-event-2 c = let l = @@loop in let b = @@args in let t = @loop-test .taken in let g = l .loop .inv .1 in let r = room _ _ _ _ _ _ _ _ _ _ g t (b .pre .1) (b .pre .2) in
     omega (arith, r .event, r .answer, r .sent, r .recorded, b .good .1 .1 .1 .1 .1 .1 .1 .1 .1 .1 .1 .1 .1 .1 .0, b .good .1 .1 .1 .1 .1 .1 .1 .1 .1 .1 .1 .1 .1 .1 .1 .0, b .good .1 .1 .1 .1 .1 .1 .1 .1 .1 .1 .1 .1 .1 .1 .1 .1 .0, b .good .1 .1 .1 .1 .1 .1 .1 .1 .1 .1 .1 .1 .1 .1 .1 .1 .1)
 
 part-event-start-2 : tie.Need-part-event-start-2 Inv-loop μ-loop
@@ -77,39 +77,39 @@ part-event-end-2 : tie.Need-part-event-end-2 Inv-loop μ-loop
 part-event-end-2 c = search needs
 
 event-requires : tie.Need-event-requires Inv-loop μ-loop
-event-requires c κs = c .before .before .before .before .before .before .before .before .before .before .before .before .before .before .before .before .before .before .before .loop .inv .1 .sound
+event-requires c κs = @loop .inv .1 .sound
 
 number-requires : tie.Need-number-requires Inv-loop μ-loop
 number-requires c κs = search needs
 
 slice-write-answers : tie.Need-slice-write-answers Inv-loop μ-loop
-slice-write-answers c = let l = c .before .before .before .before .before .before .before .before .before .before .before .before .before .before .before .before .before .before .before .before .before .before .before in let b = c .before .before .before .before .before .before .before .before .before .before .before .before .before .before .before .before .before .before .before .before .before .before .before .before .before .before .before .before in let t = c .before .before .before .before .before .before .before .before .before .before .before .before .before .before .before .before .before .before .before .before .before .before .loop-test .taken in let g = l .loop .inv .1 in let r = room _ _ _ _ _ _ _ _ _ _ g t (b .pre .1) (b .pre .2) in
+slice-write-answers c = let l = @@loop in let b = @@args in let t = @loop-test .taken in let g = l .loop .inv .1 in let r = room _ _ _ _ _ _ _ _ _ _ g t (b .pre .1) (b .pre .2) in
     omega (arith, r .event, r .answer, r .sent, r .recorded, b .good .1 .1 .1 .1 .1 .1 .1 .1 .1 .1 .1 .1 .1 .1 .0, b .good .1 .1 .1 .1 .1 .1 .1 .1 .1 .1 .1 .1 .1 .1 .1 .0, b .good .1 .1 .1 .1 .1 .1 .1 .1 .1 .1 .1 .1 .1 .1 .1 .1 .0, b .good .1 .1 .1 .1 .1 .1 .1 .1 .1 .1 .1 .1 .1 .1 .1 .1 .1)
 
 add-i : tie.Need-add-i Inv-loop μ-loop
-add-i c = let l = c .before .before .before .before .before .before .before .before .before .before .before .before .before .before .before .before .before .before .before .before .before .before .before in let b = c .before .before .before .before .before .before .before .before .before .before .before .before .before .before .before .before .before .before .before .before .before .before .before .before .before .before .before .before in let t = c .before .before .before .before .before .before .before .before .before .before .before .before .before .before .before .before .before .before .before .before .before .before .loop-test .taken in let g = l .loop .inv .1 in let r = room _ _ _ _ _ _ _ _ _ _ g t (b .pre .1) (b .pre .2) in
+add-i c = let l = @@loop in let b = @@args in let t = @loop-test .taken in let g = l .loop .inv .1 in let r = room _ _ _ _ _ _ _ _ _ _ g t (b .pre .1) (b .pre .2) in
     omega (arith, r .event, r .answer, r .sent, r .recorded, b .good .1 .1 .1 .1 .1 .1 .1 .1 .1 .1 .1 .1 .1 .1 .0, b .good .1 .1 .1 .1 .1 .1 .1 .1 .1 .1 .1 .1 .1 .1 .1 .0, b .good .1 .1 .1 .1 .1 .1 .1 .1 .1 .1 .1 .1 .1 .1 .1 .1 .0, b .good .1 .1 .1 .1 .1 .1 .1 .1 .1 .1 .1 .1 .1 .1 .1 .1 .1)
 
 enum-told : tie.Need-enum-told Inv-loop μ-loop
 enum-told c = search needs
 
 loop-less : tie.Need-loop-less Inv-loop μ-loop
-loop-less c = omega (arith, c .before .before .before .before .before .before .before .before .before .before .before .before .before .before .before .before .before .before .before .before .before .before .before .loop-test .taken)
+loop-less c = omega (arith, @loop-test .taken)
 
 loop-again : tie.Need-loop-again Inv-loop μ-loop
-loop-again c = let l = c .before .before .before .before .before .before .before .before .before .before .before .before .before .before .before .before .before .before .before .before .before .before .before .before in let b = c .before .before .before .before .before .before .before .before .before .before .before .before .before .before .before .before .before .before .before .before .before .before .before .before .before .before .before .before .before in let t = c .before .before .before .before .before .before .before .before .before .before .before .before .before .before .before .before .before .before .before .before .before .before .before .loop-test .taken in let g = l .loop .inv .1 in let r = room _ _ _ _ _ _ _ _ _ _ g t (b .pre .1) (b .pre .2) in
-    (omega (arith, t), turn-refused _ _ _ _ _ _ _ _ _ _ g (r .event) (r .answer) _ _ (c .before .before .before .before .event .ensures (g .sound)) (c .before .before .before .before .event .kept .1 .1 .1 .1 .1 .1 .1 .1 .1 .1 .1 .1 .1 .1 .1 .1 .1 .0) (c .before .number .result) (c .before .number .ensures) (not-done (c .before .before .before .before .event .result .answer) (c .match .keys2)) _ (arrays-kept _ _ _ _ _), last-set (c .before .before .before .before .event .result .answer) (l .loop .answers) _ _ (r .answer) (c .before .number .ensures))
+loop-again c = let l = @@loop in let b = @@args in let t = @loop-test .taken in let g = l .loop .inv .1 in let r = room _ _ _ _ _ _ _ _ _ _ g t (b .pre .1) (b .pre .2) in
+    (omega (arith, t), turn-refused _ _ _ _ _ _ _ _ _ _ g (r .event) (r .answer) _ _ (@event .ensures (g .sound)) (@event .kept .1 .1 .1 .1 .1 .1 .1 .1 .1 .1 .1 .1 .1 .1 .1 .1 .1 .0) (@number .result) (@number .ensures) (not-done (@event .result .answer) (@match .keys2)) _ (arrays-kept _ _ _ _ _), last-set (@event .result .answer) (l .loop .answers) _ _ (r .answer) (@number .ensures))
 
 sum-requires : tie.Need-sum-requires Inv-loop μ-loop
-sum-requires c κs = let l = c .before .before .before .before .before .before .before .before .before .before .before .before .before .before .before .before .before .before .before .before .before .before .before .before .before .before .before in let b = c .before .before .before .before .before .before .before .before .before .before .before .before .before .before .before .before .before .before .before .before .before .before .before .before .before .before .before .before .before .before .before .before in let t = c .before .before .before .before .before .before .before .before .before .before .before .before .before .before .before .before .before .before .before .before .before .before .before .before .before .before .loop-test .taken in let g = l .loop .inv .1 in let r = room _ _ _ _ _ _ _ _ _ _ g t (b .pre .1) (b .pre .2) in
-    counts-fit _ _ _ _ _ _ _ _ _ _ g (r .event) (r .answer) _ _ (c .before .before .before .before .before .before .before .event .ensures (g .sound)) (c .before .before .before .before .before .before .before .event .kept .1 .1 .1 .1 .1 .1 .1 .1 .1 .1 .1 .1 .1 .1 .1 .1 .1 .0) (c .before .before .before .before .number .result) (c .before .before .before .before .number .ensures) (b .pre .0) (omega (arith, b .good .1 .1 .1 .1 .1 .1 .1 .1 .1 .1 .1 .1 .1 .1 .1 .0)) (omega (arith, g .same-record, b .good .1 .1 .1 .1 .1 .1 .1 .1 .1 .1 .1 .1 .1 .1 .1 .1 .0))
+sum-requires c κs = let l = @@loop in let b = @@args in let t = @loop-test .taken in let g = l .loop .inv .1 in let r = room _ _ _ _ _ _ _ _ _ _ g t (b .pre .1) (b .pre .2) in
+    counts-fit _ _ _ _ _ _ _ _ _ _ g (r .event) (r .answer) _ _ (@event .ensures (g .sound)) (@event .kept .1 .1 .1 .1 .1 .1 .1 .1 .1 .1 .1 .1 .1 .1 .1 .1 .1 .0) (@number .result) (@number .ensures) (b .pre .0) (omega (arith, b .good .1 .1 .1 .1 .1 .1 .1 .1 .1 .1 .1 .1 .1 .1 .1 .0)) (omega (arith, g .same-record, b .good .1 .1 .1 .1 .1 .1 .1 .1 .1 .1 .1 .1 .1 .1 .1 .1 .0))
 
 loop-less-2 : tie.Need-loop-less-2 Inv-loop μ-loop
-loop-less-2 c = omega (arith, c .before .before .before .before .before .before .before .before .before .before .before .before .before .before .before .before .before .before .before .before .before .before .before .before .before .before .before .loop-test .taken)
+loop-less-2 c = omega (arith, @loop-test .taken)
 
 loop-again-2 : tie.Need-loop-again-2 Inv-loop μ-loop
-loop-again-2 c = let l = c .before .before .before .before .before .before .before .before .before .before .before .before .before .before .before .before .before .before .before .before .before .before .before .before .before .before .before .before in let b = c .before .before .before .before .before .before .before .before .before .before .before .before .before .before .before .before .before .before .before .before .before .before .before .before .before .before .before .before .before .before .before .before .before in let t = c .before .before .before .before .before .before .before .before .before .before .before .before .before .before .before .before .before .before .before .before .before .before .before .before .before .before .before .loop-test .taken in let g = l .loop .inv .1 in let r = room _ _ _ _ _ _ _ _ _ _ g t (b .pre .1) (b .pre .2) in
-    (omega (arith, t), turn-done _ _ _ _ _ _ _ _ _ _ g (r .event) (r .answer) _ _ (c .before .before .before .before .before .before .before .before .event .ensures (g .sound)) (c .before .before .before .before .before .before .before .before .event .kept .1 .1 .1 .1 .1 .1 .1 .1 .1 .1 .1 .1 .1 .1 .1 .1 .1 .0) (c .before .before .before .before .before .number .result) (c .before .before .before .before .before .number .ensures) _ (c .sum .ensures), last-set (c .before .before .before .before .before .before .before .before .event .result .answer) (l .loop .answers) _ _ (r .answer) (c .before .before .before .before .before .number .ensures))
+loop-again-2 c = let l = @@loop in let b = @@args in let t = @loop-test .taken in let g = l .loop .inv .1 in let r = room _ _ _ _ _ _ _ _ _ _ g t (b .pre .1) (b .pre .2) in
+    (omega (arith, t), turn-done _ _ _ _ _ _ _ _ _ _ g (r .event) (r .answer) _ _ (@event .ensures (g .sound)) (@event .kept .1 .1 .1 .1 .1 .1 .1 .1 .1 .1 .1 .1 .1 .1 .1 .1 .1 .0) (@number .result) (@number .ensures) _ (@sum .ensures), last-set (@event .result .answer) (l .loop .answers) _ _ (r .answer) (@number .ensures))
 
 same-length : tie.Need-same-length Inv-loop μ-loop
 same-length c = search needs
@@ -118,7 +118,7 @@ same-length-2 : tie.Need-same-length-2 Inv-loop μ-loop
 same-length-2 c = search needs
 
 returns : tie.Need-returns Inv-loop μ-loop
-returns c = let l = c .before in let b = c .before .before .before .before .before .before in let g = l .loop .inv .1 in let e : l .loop .i ≡ length (b .args .events .now) / 2 = omega (arith, l .loop .inv .0, c .loop-test .left) in
+returns c = let l = @@loop in let b = @@args in let g = l .loop .inv .1 in let e : l .loop .i ≡ length (b .args .events .now) / 2 = omega (arith, l .loop .inv .0, @loop-test .left) in
     (g .sound, finishes _ _ _ _ _ _ _ _ _ (l .loop .i) (b .pre .1) e (omega (arith, b .pre .2, g .same-answers)) g, last-at (l .loop .last) (l .loop .answers) (l .loop .i) _ e (l .loop .inv .2))
 
 pub run-spec : {M : Type 1} → statement M

@@ -15,7 +15,7 @@ slice-aggregate-run-2 : tie.Need-slice-aggregate-run-2
 slice-aggregate-run-2 c = search needs
 
 run-requires : tie.Need-run-requires
-run-requires c κs = (c .before .before .before .before .before .pre, refl, omega arith)
+run-requires c κs = (@pre, refl, omega arith)
 
 enum-told : tie.Need-enum-told
 enum-told c = search needs
@@ -27,15 +27,15 @@ same-length : tie.Need-same-length
 same-length c = search needs
 
 returns : tie.Need-returns
-returns c = let s = c .before .before .before .before .before .before .before .before .before .before .before in let u = c .before .before .before .before .before .run in
-    single-refused _ (s .args .kind) (s .args .argument) (s .args .supply .now) (s .args .«record» .now) _ (replicate 1 0) _ (u .result) (u .ensures .1) (u .ensures .2) _ _ refl (not-done (u .result .answer) (c .before .match .keys2)) (c .stays .ensures)
+returns c = let s = @@args in let u = @run in
+    single-refused _ (s .args .kind) (s .args .argument) (s .args .supply .now) (s .args .«record» .now) _ (replicate 1 0) _ (u .result) (u .ensures .1) (u .ensures .2) _ _ refl (not-done (u .result .answer) (@match .keys2)) (@stays .ensures)
 
 same-length-2 : tie.Need-same-length-2
 same-length-2 c = search needs
 
 returns-2 : tie.Need-returns-2
-returns-2 c = let s = c .before .before .before .before .before .before .before .before .before .before .before in let u = c .before .before .before .before .before .run in
-    single-done _ (s .args .kind) (s .args .argument) (s .args .supply .now) (s .args .«record» .now) _ (replicate 1 0) _ (u .result) (u .ensures .1) (u .ensures .2) (ap numberOf (c .enum-told .given .1)) (u .ensures .0)
+returns-2 c = let s = @@args in let u = @run in
+    single-done _ (s .args .kind) (s .args .argument) (s .args .supply .now) (s .args .«record» .now) _ (replicate 1 0) _ (u .result) (u .ensures .1) (u .ensures .2) (ap numberOf (@enum-told .given .1)) (u .ensures .0)
 
 pub event-spec : {M : Type 1} → statement M
 event-spec =

@@ -17,24 +17,24 @@ table-sound-requires-2 : tie.Need-table-sound-requires-2
 table-sound-requires-2 c κs = search needs
 
 returns : tie.Need-returns
-returns c = c .table-sound2 .ensures
-    ∙ and-goes-on _ _ (sym (c .before .before .table-sound .ensures) ∙ c .before .if3 .taken)
-    ∙ and-goes-on _ _ (sym (c .before .before .before .before .pad-sound .ensures) ∙ c .before .before .before .if2 .taken)
-    ∙ and-goes-on _ _ (sym (c .before .before .before .before .before .before .mat-sound .ensures) ∙ c .before .before .before .before .before .if1 .taken)
+returns c = @table-sound2 .ensures
+    ∙ and-goes-on _ _ (sym (@table-sound .ensures) ∙ @if3 .taken)
+    ∙ and-goes-on _ _ (sym (@pad-sound .ensures) ∙ @if2 .taken)
+    ∙ and-goes-on _ _ (sym (@mat-sound .ensures) ∙ @if1 .taken)
 
 returns-2 : tie.Need-returns-2
-returns-2 c = c .before .table-sound .ensures
-    ∙ and-stops _ _ (sym (c .before .table-sound .ensures) ∙ c .if3 .left)
-    ∙ and-goes-on _ _ (sym (c .before .before .before .pad-sound .ensures) ∙ c .before .before .if2 .taken)
-    ∙ and-goes-on _ _ (sym (c .before .before .before .before .before .mat-sound .ensures) ∙ c .before .before .before .before .if1 .taken)
+returns-2 c = @table-sound .ensures
+    ∙ and-stops _ _ (sym (@table-sound .ensures) ∙ @if3 .left)
+    ∙ and-goes-on _ _ (sym (@pad-sound .ensures) ∙ @if2 .taken)
+    ∙ and-goes-on _ _ (sym (@mat-sound .ensures) ∙ @if1 .taken)
 
 returns-3 : tie.Need-returns-3
-returns-3 c = c .before .pad-sound .ensures
-    ∙ and-stops _ _ (sym (c .before .pad-sound .ensures) ∙ c .if2 .left)
-    ∙ and-goes-on _ _ (sym (c .before .before .before .mat-sound .ensures) ∙ c .before .before .if1 .taken)
+returns-3 c = @pad-sound .ensures
+    ∙ and-stops _ _ (sym (@pad-sound .ensures) ∙ @if2 .left)
+    ∙ and-goes-on _ _ (sym (@mat-sound .ensures) ∙ @if1 .taken)
 
 returns-4 : tie.Need-returns-4
-returns-4 c = c .before .mat-sound .ensures ∙ and-stops _ _ (sym (c .before .mat-sound .ensures) ∙ c .if1 .left)
+returns-4 c = @mat-sound .ensures ∙ and-stops _ _ (sym (@mat-sound .ensures) ∙ @if1 .left)
 
 pub parts-sound-spec : {M : Type 1} → statement M
 parts-sound-spec =

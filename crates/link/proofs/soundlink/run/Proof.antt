@@ -9,7 +9,7 @@ numbers-of-requires : tie.Need-numbers-of-requires
 numbers-of-requires c κs = search needs
 
 run-requires : tie.Need-run-requires
-run-requires c κs = (ap soundLink (apart _ _ (c .before .before .before .before .before .before .before .before .before .before .before .before .before .before .before .before .before .before .before .before .before .before .before .before .before .before .numbers-of .ensures)) ∙ c .before .before .before .before .before .before .before .before .before .before .before .before .before .before .before .before .before .before .before .before .before .before .before .before .before .before .before .before .before .before .before .before .pre .0, c .before .before .before .before .before .before .before .before .before .before .before .before .before .before .before .before .before .before .before .before .before .before .before .before .before .before .before .before .before .before .before .before .pre .1, c .before .before .before .before .before .before .before .before .before .before .before .before .before .before .before .before .before .before .before .before .before .before .before .before .before .before .before .before .before .before .before .before .pre .2)
+run-requires c κs = (ap soundLink (apart _ _ (@numbers-of .ensures)) ∙ @pre .0, @pre .1, @pre .2)
 
 joined-requires : tie.Need-joined-requires
 joined-requires c κs = search needs
@@ -21,8 +21,8 @@ same-length-2 : tie.Need-same-length-2
 same-length-2 c = search needs
 
 returns : tie.Need-returns
-returns c = let s = c .before .before .before .before .before .before .before .before .before .before .before .before .before .before .before .before .before .before .before .before .before .before .before .before .before .before .before .before .before .before .before .before .before .before .before .before .before .before .before .before in let e = c .before .before .before .before .before .before .before .run .ensures in
-    let j = joined-run _ _ _ _ (c .before .before .before .before .before .before .before .run .result .answer) _ (s .args .events .now) (s .args .supply .now) (s .args .«record» .now) _ (s .args .answers .now) _ (apart _ _ (c .before .before .before .before .before .before .before .before .before .before .before .before .before .before .before .before .before .before .before .before .before .before .before .before .before .before .before .before .before .before .before .before .before .before .numbers-of .ensures)) (c .joined .ensures) (e .0) (e .1) in (j .0, j .1, e .2)
+returns c = let s = @@args in let e = @run .ensures in
+    let j = joined-run _ _ _ _ (@run .result .answer) _ (s .args .events .now) (s .args .supply .now) (s .args .«record» .now) _ (s .args .answers .now) _ (apart _ _ (@numbers-of .ensures)) (@joined .ensures) (e .0) (e .1) in (j .0, j .1, e .2)
 
 pub run-spec : {M : Type 1} → statement M
 run-spec =

@@ -1,0 +1,10 @@
+pub mod Parts
+pub mod Stays
+pub mod Messages
+pub mod Tables
+pub mod Sending
+pub mod Arriving
+pub mod Replying
+pub mod Acknowledging
+pub mod Ticking
+pub mod Decoding

@@ -1,0 +1,4 @@
+pub mod State
+pub mod Rules
+pub mod View
+pub mod Lent
