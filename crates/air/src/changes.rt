@@ -101,13 +101,7 @@ pub fn put_data(
 }
 
 // A reply goes into the air with a full life.
-pub fn put_reply(
-    l: Limits,
-    count: usize,
-    words: &mut [u16; 96],
-    first: usize,
-    last: usize,
-) -> usize
+pub fn put_reply(l: Limits, count: usize, words: &mut [u16; 96], first: usize, last: usize) -> usize
     requires { ⌜ (soundLimits l ≡ true) × (count < 32) × (soundReply l (record { first = first; last = last }) ≡ true) ⌝ }
     ensures { λ r. ⌜ (soundReplyTable l (replyTable count (now (words .entry))) ≡ true
         → ReplyHolds l (replyTable r (now (words .exit)))

@@ -17,11 +17,7 @@ use mat::soundmat;
 use pad::soundpad;
 
 // Message p leaves the data table: 17.
-pub fn lose_data(
-    n: Numbers,
-    datas: &mut [u16; 576],
-    p: usize,
-) -> Step
+pub fn lose_data(n: Numbers, datas: &mut [u16; 576], p: usize) -> Step
     requires { ⌜ n .datas ≤ 32 ⌝ }
     ensures { λ r. ⌜ ((l : Limits) (marks held : List Bool) (mattimers matcells padtimers padcells replies supply b : List ℕ)
         → LentMoves l n
@@ -42,11 +38,7 @@ pub fn lose_data(
 }
 
 // Message p leaves the reply table: 17.
-pub fn lose_reply(
-    n: Numbers,
-    replies: &mut [u16; 96],
-    p: usize,
-) -> Step
+pub fn lose_reply(n: Numbers, replies: &mut [u16; 96], p: usize) -> Step
     requires { ⌜ n .replies ≤ 32 ⌝ }
     ensures { λ r. ⌜ ((l : Limits) (marks held : List Bool) (mattimers matcells padtimers padcells datas supply b : List ℕ)
         → LentMoves l n

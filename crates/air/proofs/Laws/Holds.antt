@@ -45,16 +45,18 @@ module _ {B : Type 0} (reads : List ℕ → B) (sound : B → Bool) (most w n : 
       × (map (onBody reads) (messages w (n + 1) next) ≡ put x (map (onBody reads) (messages w n words)))
   put-holds m x is e q h =
       let same : map (onBody reads) (messages w (n + 1) next) ≡ put x (map (onBody reads) (messages w n words))
-              = ap (map (onBody reads)) e ∙ sym (table-put (onBody reads) (messageOf w m) (messages w n words)) ∙ ap (λ y. put y (map (onBody reads) (messages w n words))) is in
-      (rw same (put-sound sound most x (map (onBody reads) (messages w n words)) s q
-      (let l = length-map (messages w n words) (onBody reads) in let k = length-messages w n words in omega arith)), same)
+      = ap (map (onBody reads)) e ∙ sym (table-put (onBody reads) (messageOf w m) (messages w n words)) ∙ ap (λ y. put y (map (onBody reads) (messages w n words))) is in (
+        rw same (put-sound sound most x (map (onBody reads) (messages w n words)) s q
+            (let l = length-map (messages w n words) (onBody reads) in let k = length-messages w n words in omega arith)),
+        same,
+      )
 
   remove-holds : (p : ℕ) → messages w (n - 1) next ≡ remove p (messages w n words)
       → (soundMessages sound most (map (onBody reads) (messages w (n - 1) next)) ≡ true)
       × (map (onBody reads) (messages w (n - 1) next) ≡ remove p (map (onBody reads) (messages w n words)))
   remove-holds p e =
       let same : map (onBody reads) (messages w (n - 1) next) ≡ remove p (map (onBody reads) (messages w n words))
-              = ap (map (onBody reads)) e ∙ sym (table-remove (onBody reads) p (messages w n words)) in
+      = ap (map (onBody reads)) e ∙ sym (table-remove (onBody reads) p (messages w n words)) in
       (rw same (remove-sound sound most p (map (onBody reads) (messages w n words)) s), same)
 
   age-holds : (d left : ℕ) → messages w left next ≡ age d (messages w n words)
@@ -62,7 +64,7 @@ module _ {B : Type 0} (reads : List ℕ → B) (sound : B → Bool) (most w n : 
       × (map (onBody reads) (messages w left next) ≡ age d (map (onBody reads) (messages w n words)))
   age-holds d left e =
       let same : map (onBody reads) (messages w left next) ≡ age d (map (onBody reads) (messages w n words))
-              = ap (map (onBody reads)) e ∙ sym (table-age reads d (messages w n words)) in
+      = ap (map (onBody reads)) e ∙ sym (table-age reads d (messages w n words)) in
       (rw same (age-sound sound most d (map (onBody reads) (messages w n words)) s), same)
 
 module _ (l : Limits) (n : ℕ) (words next : List ℕ) (s : soundDataTable l (dataTable n words) ≡ true) where

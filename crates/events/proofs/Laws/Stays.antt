@@ -42,6 +42,12 @@ module _ (qs : List Question) (k k' : Link) (r : Progress) (a : Answer) (b : Lis
       (shown-stays k' a r b s ∙ ap (λ x. unmoved x b) d)
       (ap soundLink (s .1) ∙ h)
 
+-- a promise that is known for the link that stays
+pub stays-as : (qs : List Question) (k k' : Link) (r : Progress) (a : Answer) (b : List ℕ) (done : Moved) → Stayed k' a r
+    → Called qs a (unmoved (linkState k') b) done (unmoved (linkState k) b) soundLink k k'
+    → Called qs (r .answer) (shown r b) done (unmoved (linkState k) b) soundLink k (r .link)
+stays-as qs k k' r a b done s c = rw (s .0, s .1, s .2) c
+
 -- what the inner `stays` promises, and what that is of a link
 abbrev pub StaysAt : Numbers → Answer → Step → Type 0
 StaysAt n a r = (r .answer ≡ a) × (r .numbers ≡ n) × (r .counts ≡ noCounts)
