@@ -1,5 +1,6 @@
 -- What opening, one event and a run promise.
 use Prim.Native.Nat.{ℕ, _/_, _%_}
+use mathlib.Core.Bool.{Bool, not}
 use mathlib.Core.List.{List, [], _∷_, _++_}
 use lib.Dec.{eqb, leb}
 use lib.ListN.{length, drop}
@@ -35,15 +36,22 @@ Stepped k kind argument supply before after r =
     Called (ask 4 (soundLink k) ∷ (wholeRows supply ++ questions supply (length before) (linkState k) (event kind argument))) (r .answer) (shown r after)
     (acted supply before (linkState k) (event kind argument)) (unmoved (linkState k) before) soundLink k (r .link)
 
+-- the number of an answer other than done
+abbrev pub refuses : ℕ → Bool
+refuses n = not (eqb n 0)
+
 -- what a run leaves in the link, the record and the answer buffer
 pub record Run : Type 0 where
   pub moved : Moved
   pub answers : List ℕ
 
--- 5, 6 and 7, of what is lent to a run
+-- 5, 6 and 7, of the lengths of what is lent to a run: event bytes, cells of supply, answer bytes
+abbrev pub lentAsks : ℕ → ℕ → ℕ → List Question
+lentAsks bytes supply answerBuffer =
+    ask 5 (eqb (bytes % 2) 0) ∷ ask 6 (eqb (supply % 16) 0) ∷ ask 7 (leb (bytes / 2) answerBuffer) ∷ []
+
 abbrev pub lentQuestions : List ℕ → List ℕ → List ℕ → List Question
-lentQuestions bytes supply answerBuffer =
-    ask 5 (eqb (length bytes % 2) 0) ∷ (wholeRows supply ++ (ask 7 (leb (length bytes / 2) (length answerBuffer)) ∷ []))
+lentQuestions bytes supply answerBuffer = lentAsks (length bytes) (length supply) (length answerBuffer)
 
 abbrev pub running : Link → List ℕ → List ℕ → List ℕ → List ℕ → Run
 running k bytes supply before answersBefore =

@@ -1,25 +1,42 @@
 -- A link that is taken apart into numbers and arrays, and put together again.
 use Prim.Native.Nat.{ℕ}
-use mathlib.Core.Path.{_≡_, ap}
-use mathlib.Core.Bool.{true}
+use mathlib.Core.Path.{_≡_}
+use mathlib.Core.Bool.{Bool}
 use mathlib.Core.List.{List}
+use Rattle.limits.specs.declared.Limits.{Limits}
 use Rattle.limits.specs.declared.answer.Answer.{Answer}
-use Rattle.link.specs.declared.Link.{Link}
-use Rattle.link.specs.declared.Counts.{Counts}
-use Rattle.link.specs.declared.lentlink.Numbers.{Numbers}
-use Rattle.link.specs.View.{soundLink, shown, running}
-use Rattle.link.specs.Lent.{arrays, numbersOf, linkOf}
+use Rattle.mat.specs.declared.Mat.{Mat}
+use Rattle.mat.specs.View.{matOf}
+use Rattle.pad.specs.declared.Pad.{Pad}
+use Rattle.pad.specs.View.{padOf}
+use Rattle.air.specs.declared.datatable.DataTable.{DataTable}
+use Rattle.air.specs.declared.replytable.ReplyTable.{ReplyTable}
+use Rattle.air.specs.Data.{dataTable}
+use Rattle.air.specs.Replies.{replyTable}
+use Rattle.events.specs.declared.Link.{Link}
+use Rattle.events.specs.declared.Counts.{Counts}
+use Rattle.events.specs.declared.Progress.{Progress}
+use Rattle.events.specs.declared.moves.Numbers.{Numbers}
+use Rattle.events.specs.Lent.{Arrays, arrays, numbersOf, linkOf}
 
-pub apart : (k : Link) (n : Numbers) → n ≡ numbersOf k
-    → linkOf (k .limits) n
-    (arrays (k .mat .marks) (k .mat .timers) (k .mat .cells) (k .pad .held) (k .pad .timers) (k .pad .cells) (k .datas .numbers) (k .datas .lives) (k .datas .cells)
-    (k .replies .firsts) (k .replies .lasts) (k .replies .lives))
-    ≡ k
-apart k n e = ap (λ x. linkOf (k .limits) x (arrays (k .mat .marks) (k .mat .timers) (k .mat .cells) (k .pad .held) (k .pad .timers) (k .pad .cells) (k .datas .numbers) (k .datas .lives) (k .datas .cells) (k .replies .firsts) (k .replies .lasts) (k .replies .lives))) e
+abbrev pub arraysOf : Link → Arrays
+arraysOf k =
+    arrays (k .mat .marks) (k .mat .timers) (k .mat .cells) (k .pad .held) (k .pad .timers) (k .pad .cells) (k .datas .words) (k .replies .words)
 
-pub joined-run : (k k' link link' : Link) (a : Answer) (counts : Counts) (bytes supply before after answersBefore answersAfter : List ℕ) → k' ≡ k → link ≡ link'
-    → soundLink link' ≡ true
-    → record { moved = shown (record { answer = a; link = link'; counts = counts }) after; answers = answersAfter } ≡ running k' bytes supply before answersBefore
-    → (soundLink link ≡ true)
-    × (record { moved = shown (record { answer = a; link = link; counts = counts }) after; answers = answersAfter } ≡ running k bytes supply before answersBefore)
-joined-run k k' link link' a counts bytes supply before after answersBefore answersAfter same joined s t = rw (joined, ← same) (s, t)
+-- the arrays of a link, each by another name
+module _ (k : Link) (n : Numbers) (marks : List Bool) (mattimers matcells : List ℕ) (held : List Bool) (padtimers padcells datas replies : List ℕ)
+    (en : n ≡ numbersOf k) (em : marks ≡ k .mat .marks) (et : mattimers ≡ k .mat .timers) (ec : matcells ≡ k .mat .cells) (eh : held ≡ k .pad .held)
+    (ep : padtimers ≡ k .pad .timers) (eq : padcells ≡ k .pad .cells) (ed : datas ≡ k .datas .words) (er : replies ≡ k .replies .words) where
+  pub apart : linkOf (k .limits) n (arrays marks mattimers matcells held padtimers padcells datas replies) ≡ k
+  apart = λ i. linkOf (k .limits) (en i) (arrays (em i) (et i) (ec i) (eh i) (ep i) (eq i) (ed i) (er i))
+
+-- a promise of the link that numbers and arrays make is one of the link that was taken apart and of the one put together
+pub together : (P : Link → Progress → Type 0) (k k' link link' : Link) (a : Answer) (counts : Counts) → k' ≡ k → link ≡ link'
+    → P k' (record { answer = a; link = link'; counts = counts }) → P k (record { answer = a; link = link; counts = counts })
+together P k k' link link' a counts e f h = rw (← e, f) h
+
+pub joins : (l : Limits) (m : Mat) (p : Pad) (d : DataTable) (r : ReplyTable) (n : Numbers) (a : Arrays)
+    → m ≡ matOf (n .oldest) (n .next) (a .marks) (a .mattimers) (a .matcells) → p ≡ padOf (n .wanted) (a .held) (a .padtimers) (a .padcells)
+    → d ≡ dataTable (n .datas) (a .datas) → r ≡ replyTable (n .replies) (a .replies)
+    → record { limits = l; mat = m; pad = p; datas = d; replies = r } ≡ linkOf l n a
+joins l m p d r n a em ep ed er = λ i. record { limits = l; mat = em i; pad = ep i; datas = ed i; replies = er i }

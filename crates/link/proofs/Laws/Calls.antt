@@ -13,11 +13,12 @@ use Rattle.limits.specs.Questions.{Question, ask, firstNo}
 use Rattle.limits.specs.Events.{event}
 use Rattle.limits.proofs.Laws.Choice.{pick-yes, pick-no}
 use Rattle.limits.proofs.Laws.Promise.{called-as, called-done, called-refused}
-use Rattle.link.specs.declared.Link.{Link}
-use Rattle.link.specs.declared.Progress.{Progress}
-use Rattle.link.specs.Rules.{questions}
-use Rattle.link.specs.View.{linkState, soundLink, shown, Moves, Stepped, Ran, wholeRows, lentQuestions, running}
-use Rattle.link.proofs.Laws.Stays.{Stayed, shown-stays, stays-refused}
+use Rattle.events.specs.declared.Link.{Link}
+use Rattle.events.specs.declared.Progress.{Progress}
+use Rattle.events.specs.Rules.{questions}
+use Rattle.events.specs.View.{linkState, soundLink, shown, Moves}
+use Rattle.link.specs.View.{Stepped, Ran, wholeRows, lentQuestions, running}
+use Rattle.events.proofs.Laws.Stays.{Stayed, shown-stays, stays-refused}
 
 -- a question that is answered no, and one that is passed, in front of others
 no-first : (code : ℕ) (b : Bool) (qs : List Question) → b ≡ false → code ≡ firstNo (ask code b ∷ qs)
@@ -57,38 +58,43 @@ module _ (k : Link) (bytes supply before answers : List ℕ) (r : Progress) wher
   pub run-unsound : soundLink k ≡ false → Stayed k Unsound r → Ran k bytes supply before before answers answers r
   run-unsound e s = run-refused Unsound s (no-first 4 (soundLink k) (lentQuestions bytes supply answers) e) refl
 
-  module _ (e : soundLink k ≡ true) where
-    abbrev fits : Bool
-    fits = leb (length bytes / 2) (length answers)
+  -- 5, 6 or 7
+  pub run-asked : (a : Answer) → soundLink k ≡ true → numberOf a ≡ firstNo (lentQuestions bytes supply answers) → eqb (numberOf a) 0 ≡ false → Stayed k a r
+      → Ran k bytes supply before before answers answers r
+  run-asked a e f z s = run-refused a s (no-later 4 (soundLink k) (lentQuestions bytes supply answers) (numberOf a) e f) z
 
-    pub run-odd : (length bytes % 2 ≡ 0 → ⊥) → Stayed k OddEvents r → Ran k bytes supply before before answers answers r
-    run-odd n s =
-        run-refused OddEvents s
-        (no-later 4 (soundLink k) (lentQuestions bytes supply answers) 5 e
-        (no-first 5 (eqb (length bytes % 2) 0) (wholeRows supply ++ (ask 7 fits ∷ [])) (ne-eqb (length bytes % 2) 0 n)))
-        refl
+  pub run-done : (after answersAfter : List ℕ) → soundLink k ≡ true → numberOf (r .answer) ≡ firstNo (lentQuestions bytes supply answers) → numberOf (r .answer) ≡ 0
+      → (soundLink (r .link) ≡ true) × (record { moved = shown r after; answers = answersAfter } ≡ running k bytes supply before answers)
+      → Ran k bytes supply before after answers answersAfter r
+  run-done after answersAfter e f z t =
+      called-done asked _ _ _ _ (no-later 4 (soundLink k) (lentQuestions bytes supply answers) _ e f) _ _ _ z (t .1) (t .0)
 
-    module _ (z : length bytes % 2 ≡ 0) where
-      pub run-partial : (length supply % 16 ≡ 0 → ⊥) → Stayed k PartialRow r → Ran k bytes supply before before answers answers r
-      run-partial n s =
-          run-refused PartialRow s
-          (no-later 4 (soundLink k) (lentQuestions bytes supply answers) 6 e
-          (no-later 5 (eqb (length bytes % 2) 0) (wholeRows supply ++ (ask 7 fits ∷ [])) 6 (eq-eqb (length bytes % 2) 0 z)
-          (no-first 6 (eqb (length supply % 16) 0) (ask 7 fits ∷ []) (ne-eqb (length supply % 16) 0 n))))
-          refl
+-- 5, 6 and 7, one after the other
+module _ (bytes supply answers : ℕ) where
+  pub fits-odd : (bytes % 2 ≡ 0 → ⊥) → 5 ≡ firstNo (lentAsks bytes supply answers)
+  fits-odd n = no-first 5 (eqb (bytes % 2) 0) (ask 6 (eqb (supply % 16) 0) ∷ ask 7 (leb (bytes / 2) answers) ∷ []) (ne-eqb (bytes % 2) 0 n)
 
-      module _ (y : length supply % 16 ≡ 0) where
-        behind : (found : ℕ) → found ≡ firstNo (ask 7 fits ∷ []) → found ≡ firstNo asked
-        behind found f =
-            no-later 4 (soundLink k) (lentQuestions bytes supply answers) found e
-            (no-later 5 (eqb (length bytes % 2) 0) (wholeRows supply ++ (ask 7 fits ∷ [])) found (eq-eqb (length bytes % 2) 0 z)
-            (no-later 6 (eqb (length supply % 16) 0) (ask 7 fits ∷ []) found (eq-eqb (length supply % 16) 0 y) f))
+  module _ (z : bytes % 2 ≡ 0) where
+    later : (found : ℕ) → found ≡ firstNo (ask 6 (eqb (supply % 16) 0) ∷ ask 7 (leb (bytes / 2) answers) ∷ []) → found ≡ firstNo (lentAsks bytes supply answers)
+    later found f = no-later 5 (eqb (bytes % 2) 0) (ask 6 (eqb (supply % 16) 0) ∷ ask 7 (leb (bytes / 2) answers) ∷ []) found (eq-eqb (bytes % 2) 0 z) f
 
-        pub run-short : length answers < length bytes / 2 → Stayed k ShortAnswers r → Ran k bytes supply before before answers answers r
-        run-short h s = run-refused ShortAnswers s (behind 7 (no-first 7 fits [] (lt-leb (length bytes / 2) (length answers) h))) refl
+    pub fits-partial : (supply % 16 ≡ 0 → ⊥) → 6 ≡ firstNo (lentAsks bytes supply answers)
+    fits-partial n = later 6 (no-first 6 (eqb (supply % 16) 0) (ask 7 (leb (bytes / 2) answers) ∷ []) (ne-eqb (supply % 16) 0 n))
 
-        pub run-done : (after answersAfter : List ℕ) → length bytes / 2 ≤ length answers
-            → (r .answer ≡ Done) × (soundLink (r .link) ≡ true) × (record { moved = shown r after; answers = answersAfter } ≡ running k bytes supply before answers)
-            → Ran k bytes supply before after answers answersAfter r
-        run-done after answersAfter h t =
-            called-done asked _ _ _ _ (ap numberOf (t .0) ∙ behind 0 (sym (pick-yes fits 0 7 0 (le-leb (length bytes / 2) (length answers) h) refl))) _ _ _ (ap numberOf (t .0)) (t .2) (t .1)
+    module _ (y : supply % 16 ≡ 0) where
+      last : (found : ℕ) → found ≡ firstNo (ask 7 (leb (bytes / 2) answers) ∷ []) → found ≡ firstNo (lentAsks bytes supply answers)
+      last found f = later found (no-later 6 (eqb (supply % 16) 0) (ask 7 (leb (bytes / 2) answers) ∷ []) found (eq-eqb (supply % 16) 0 y) f)
+
+      pub fits-short : answers < bytes / 2 → 7 ≡ firstNo (lentAsks bytes supply answers)
+      fits-short h = last 7 (no-first 7 (leb (bytes / 2) answers) [] (lt-leb (bytes / 2) answers h))
+
+      pub fits-all : bytes / 2 ≤ answers → 0 ≡ firstNo (lentAsks bytes supply answers)
+      fits-all h = last 0 (sym (pick-yes (leb (bytes / 2) answers) 0 7 0 (le-leb (bytes / 2) answers h) refl))
+
+-- what a run wants of what is lent
+pub run-needs : (bytes supply answers : ℕ) (a : Answer) → numberOf a ≡ firstNo (lentAsks bytes supply answers) → numberOf a ≡ 0
+    → (bytes % 2 ≡ 0) × (bytes / 2 ≤ answers)
+unfolding all
+run-needs bytes supply answers a e z =
+    let passed = each (lentAsks bytes supply answers) refl (sym e ∙ z) in
+    (eqb-true (bytes % 2) 0 (passed .0), leb-true (bytes / 2) answers (passed .1 .1 .0))

@@ -19,8 +19,8 @@ use Rattle.mat.specs.Window.{Kept, outstanding}
 use Rattle.mat.specs.Rules as mat
 use Rattle.pad.specs.Rules as pad
 use Rattle.air.specs.Rules.{roomQuestions}
-use Rattle.link.specs.State.{LinkState, Moved, unmoved}
-use Rattle.link.specs.Rules.{arrivalAt, oldTaken, newTaken, taken, questions, acted, answer, stepped, replyAt}
+use Rattle.events.specs.State.{LinkState, Moved, unmoved}
+use Rattle.events.specs.Rules.{arrivalAt, oldTaken, newTaken, taken, questions, acted, answer, stepped, replyAt}
 
 pub record Rises (supply buffer : List ℕ) (s : LinkState) (x : Moved) : Type 0 where
   pub sent : 16 * x .counts .sent ≤ length supply

@@ -22,16 +22,17 @@ use Rattle.limits.specs.declared.answer.Answer.{Answer}
 use Rattle.pad.specs.View.{padOf}
 use Rattle.air.specs.Data.{dataTable}
 use Rattle.air.specs.Replies.{replyTable}
-use Rattle.link.specs.declared.Link.{Link}
-use Rattle.link.specs.declared.lentlink.Numbers.{Numbers}
-use Rattle.link.specs.Lent.{Arrays, linkOf}
-use Rattle.link.specs.declared.Counts.{Counts}
-use Rattle.link.specs.declared.Progress.{Progress}
-use Rattle.link.specs.State.{Moved, noCounts, added, unmoved}
-use Rattle.link.specs.Rules.{stepped}
+use Rattle.events.specs.declared.Link.{Link}
+use Rattle.events.specs.declared.moves.Numbers.{Numbers}
+use Rattle.events.specs.Lent.{Arrays, linkOf}
+use Rattle.events.specs.declared.Counts.{Counts}
+use Rattle.events.specs.declared.Progress.{Progress}
+use Rattle.events.specs.State.{Moved, noCounts, added, unmoved}
+use Rattle.events.specs.Rules.{stepped}
 use Rattle.link.specs.Runs.{continued, next, afterAll, answers}
-use Rattle.link.specs.View.{linkState, soundLink, shown, Moves, running}
-use Rattle.link.proofs.Laws.Parts.{parts}
+use Rattle.events.specs.View.{linkState, soundLink, shown, Moves}
+use Rattle.link.specs.View.{running}
+use Rattle.events.proofs.Laws.Parts.{parts}
 use Rattle.link.proofs.Laws.Rises.{rises-of}
 
 abbrev pub reached : Link → Counts → List ℕ → Moved
@@ -45,6 +46,7 @@ pub record Going (bytes supply rec₀ ans₀ : List ℕ) (k : Link) (rec ans : L
   pub moved : afterAll supply (reached link counts rec) (events (drop (2 * i) bytes)) ≡ afterAll supply (unmoved (linkState k) rec₀) (events bytes)
   pub numbers : take i ans ++ answers supply (reached link counts rec) (events (drop (2 * i) bytes)) ≡ answers supply (unmoved (linkState k) rec₀) (events bytes)
   pub behind : drop i ans ≡ drop i ans₀
+  pub still : all refuses (take i ans) ≡ true → link ≡ k
   pub same-record : length rec ≡ length rec₀
   pub same-answers : length ans ≡ length ans₀
 
@@ -90,9 +92,14 @@ starts bytes supply rec ans k h =
       moved = refl;
       numbers = refl;
       behind = refl;
+      still = λ _. refl;
       same-record = refl;
       same-answers = refl;
     }
+
+-- a refusal is not 0
+not-zero : (n : ℕ) → refuses n ≡ true → eqb n 0 ≡ false
+not-zero n e = test (eqb n 0) (λ q. absurd (clash (refuses n) e (ap not q))) (λ q. q)
 
 -- the event at 2i, and those behind it
 pub event-at : (bytes : List ℕ) (i : ℕ) → 2 * i + 1 < length bytes
@@ -141,6 +148,18 @@ module _ (bytes supply rec₀ ans₀ : List ℕ) (k : Link) (rec ans : List ℕ)
       ∙ ap (drop 1) (g .behind)
       ∙ drop-drop 1 i ans₀
 
+  -- as long as every event is refused, the link is the one at the start
+  goes-still : all refuses (take (i + 1) (set ans i (numberOf (r .answer)))) ≡ true → r .link ≡ k
+  unfolding all
+  goes-still e =
+      let n = numberOf (r .answer) in
+      let both-refuse : (all refuses (take i ans) && (refuses n && true)) ≡ true
+              = sym (all-append refuses (take i ans) (n ∷ []))
+              ∙ sym (ap (all refuses) (ap (λ j. take j (set ans i n)) (add-one i) ∙ take-suc-set ans i n fits))
+              ∙ e in
+      let refused = not-zero n (and-left (refuses n) true (and-right (all refuses (take i ans)) (refuses n && true) both-refuse)) in
+      m .keeps .kept (λ y. eqb-false n 0 refused (m .answers .number ∙ y)) ∙ g .still (and-left (all refuses (take i ans)) (refuses n && true) both-refuse)
+
   pub goes : Going bytes supply rec₀ ans₀ k (take (16 * counts .recorded) rec ++ after) (set ans i (numberOf (r .answer))) (r .link) (added counts (r .counts)) (i + 1)
   unfolding stepped
   goes =
@@ -158,6 +177,7 @@ module _ (bytes supply rec₀ ans₀ : List ℕ) (k : Link) (rec ans : List ℕ)
         moved = goes-moved;
         numbers = goes-numbers;
         behind = goes-behind;
+        still = goes-still;
         same-record = omega arith;
         same-answers = omega arith;
       }
@@ -181,8 +201,8 @@ arrays-kept l n m lent after e = λ i.
       limits = l;
       mat = matOf (n .oldest) (n .next) (e i .mat .marks) (e i .mat .timers) (e i .mat .cells);
       pad = padOf (n .wanted) (e i .pad .held) (e i .pad .timers) (e i .pad .cells);
-      datas = dataTable (n .datas) (e i .datas .numbers) (e i .datas .lives) (e i .datas .cells);
-      replies = replyTable (n .replies) (e i .replies .firsts) (e i .replies .lasts) (e i .replies .lives);
+      datas = dataTable (n .datas) (e i .datas .words);
+      replies = replyTable (n .replies) (e i .replies .words);
     }
 
 -- a turn of the loop, on the parts that it lends
@@ -247,3 +267,7 @@ finishes bytes supply rec₀ ans₀ k rec ans link counts i z e f g =
 
     answers-are : ans ≡ answers supply (unmoved (linkState k) rec₀) (events bytes) ++ drop (length bytes / 2) ans₀
     answers-are = sym (take-append-drop i ans) ∙ ap₂ _++_ given (g .behind ∙ ap (λ n. drop n ans₀) e)
+
+pub all-refused : (bytes supply rec₀ ans₀ : List ℕ) (k : Link) (rec ans : List ℕ) (link : Link) (counts : Counts) (i count : ℕ) → i ≡ count
+    → Going bytes supply rec₀ ans₀ k rec ans link counts i → all refuses (take count ans) ≡ true → link ≡ k
+all-refused bytes supply rec₀ ans₀ k rec ans link counts i count e g h = g .still (rw e h)

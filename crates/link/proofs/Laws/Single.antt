@@ -13,13 +13,14 @@ use Rattle.limits.specs.Answer.{numberOf}
 use Rattle.limits.specs.Events.{Event, event}
 use Rattle.limits.proofs.Laws.Choice.{pick-yes, pick-no}
 use Rattle.limits.proofs.Laws.Promise.{called-done}
-use Rattle.link.specs.declared.Link.{Link}
-use Rattle.link.specs.declared.Progress.{Progress}
-use Rattle.link.specs.State.{LinkState, Moved, unmoved}
-use Rattle.link.specs.Rules.{answer, stepped}
+use Rattle.events.specs.declared.Link.{Link}
+use Rattle.events.specs.declared.Progress.{Progress}
+use Rattle.events.specs.State.{LinkState, Moved, unmoved}
+use Rattle.events.specs.Rules.{answer, stepped}
 use Rattle.link.specs.Runs.{continued, next, afterAll, answers}
-use Rattle.link.specs.View.{linkState, soundLink, shown, Moves, Run, running}
-use Rattle.link.proofs.Laws.Stays.{Stayed, stays-refused}
+use Rattle.events.specs.View.{linkState, soundLink, shown, Moves}
+use Rattle.link.specs.View.{Run, running}
+use Rattle.events.proofs.Laws.Stays.{Stayed, stays-refused}
 
 next-first : (supply before : List ℕ) (s : LinkState) (e : Event) → next supply (unmoved s before) e ≡ stepped supply before s e
 unfolding next continued
@@ -58,3 +59,9 @@ module _ (k : Link) (kind argument : ℕ) (supply before after ans₀ ans : List
 
       same : after ≡ before
       same = ap (λ (x : Moved). x .buffer) (shown-is ∙ pick-no _ _ _ _ (ap (λ n. eqb n 0) (sym number) ∙ z) refl)
+
+-- its one answer is a refusal
+pub one-refused : (ans : List ℕ) (n : ℕ) → n ≡ getD ans 0 0 → eqb n 0 ≡ false → all refuses (take 1 ans) ≡ true
+unfolding all
+one-refused [] n e z = refl
+one-refused (x ∷ xs) n e z = both (refuses x) true (ap (λ y. not (eqb y 0)) (sym e) ∙ ap not z) refl
