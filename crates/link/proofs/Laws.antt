@@ -1,14 +1,4 @@
-pub mod Parts
-pub mod Stays
 pub mod Opening
-pub mod Tables
-pub mod Messages
-pub mod Sending
-pub mod Ticking
-pub mod Acknowledging
-pub mod Arriving
-pub mod Replying
-pub mod Decoding
 pub mod Calls
 pub mod Rises
 pub mod Running

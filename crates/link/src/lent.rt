@@ -6,9 +6,9 @@ ghost use Rattle.limits.specs.Questions.{firstNo};
 ghost use Rattle.events.specs.View.{soundLink};
 ghost use Rattle.events.specs.Lent.{arrays, linkOf, progressOf};
 ghost use Rattle.link.specs.View.{lentAsks, Stepped, Ran};
+use crate::lentrun;
 use air::lent;
 use air::lent::Kind;
-use crate::lentrun;
 use events::moves;
 use events::moves::Numbers;
 use events::moves::Step;
@@ -67,7 +67,18 @@ pub fn step(
         (now (held .exit)) (now (padtimers .exit)) (now (padcells .exit))
         (now (datas .exit)) (now (replies .exit))) r) ⌝ }
 {
-    if sound(l, n, marks, mattimers, matcells, held, padtimers, padcells, datas, replies) {
+    if sound(
+        l,
+        n,
+        marks,
+        mattimers,
+        matcells,
+        held,
+        padtimers,
+        padcells,
+        datas,
+        replies,
+    ) {
         if supply.len() % 16 == 0 {
             let bytes = [kind, argument];
             let mut answers = [0; 1];
@@ -144,7 +155,18 @@ pub fn run(
         (now (held .exit)) (now (padtimers .exit)) (now (padcells .exit))
         (now (datas .exit)) (now (replies .exit))) r) ⌝ }
 {
-    if sound(l, n, marks, mattimers, matcells, held, padtimers, padcells, datas, replies) {
+    if sound(
+        l,
+        n,
+        marks,
+        mattimers,
+        matcells,
+        held,
+        padtimers,
+        padcells,
+        datas,
+        replies,
+    ) {
         let answer = lent_fits(events.len(), supply.len(), answers.len());
         let Answer::Done = answer else {
             return moves::stays(n, answer);

@@ -64,12 +64,7 @@ fn slide(words: &mut [u16], width: usize, from: usize, to: usize, n: usize)
     ensures { λ _. ⌜ now (words .exit) ≡ closed (width * to) (width * (from - to)) (width * (from + n)) (now (words .entry)) ⌝ }
 {
     if to < from {
-        rows::close(
-            words,
-            width * to,
-            width * (from - to),
-            width * (from + n),
-        );
+        rows::close(words, width * to, width * (from - to), width * (from + n));
     }
 }
 

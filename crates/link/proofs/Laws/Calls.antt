@@ -5,19 +5,21 @@ use mathlib.Core.Bool.{Bool, true, false}
 use mathlib.Core.List.{List, [], _∷_, _++_}
 use lib.Dec.{eqb, leb}
 use lib.ListN.{length}
-use borrow.Author.Tests.{eq-eqb, ne-eqb, le-leb, lt-leb}
+use borrow.Author.Tests.{eq-eqb, ne-eqb, le-leb, lt-leb, eqb-true, leb-true}
 use Rattle.limits.specs.declared.answer.Answer.{Answer}
-use Rattle.limits.specs.declared.answer.Answer.the-variants.{Done, Unsound, OddEvents, PartialRow, ShortAnswers}
+use Rattle.limits.specs.declared.answer.Answer.the-variants.{Unsound, PartialRow}
 use Rattle.limits.specs.Answer.{numberOf}
 use Rattle.limits.specs.Questions.{Question, ask, firstNo}
+use Rattle.limits.specs.Lists.{all}
 use Rattle.limits.specs.Events.{event}
 use Rattle.limits.proofs.Laws.Choice.{pick-yes, pick-no}
 use Rattle.limits.proofs.Laws.Promise.{called-as, called-done, called-refused}
+use Rattle.limits.proofs.Laws.Questions.{each}
 use Rattle.events.specs.declared.Link.{Link}
 use Rattle.events.specs.declared.Progress.{Progress}
 use Rattle.events.specs.Rules.{questions}
 use Rattle.events.specs.View.{linkState, soundLink, shown, Moves}
-use Rattle.link.specs.View.{Stepped, Ran, wholeRows, lentQuestions, running}
+use Rattle.link.specs.View.{Stepped, Ran, wholeRows, lentAsks, lentQuestions, running}
 use Rattle.events.proofs.Laws.Stays.{Stayed, shown-stays, stays-refused}
 
 -- a question that is answered no, and one that is passed, in front of others

@@ -1,7 +1,7 @@
 -- The run's loop: what is left to do, from where it has come to, is the whole run from its start.
 use Prim.Native.Nat.{ℕ, suc, _+_, _-_, _*_, _/_, _%_, _≤_, _<_}
 use mathlib.Core.Path.{_≡_, refl, sym, _∙_, ap, ap₂}
-use mathlib.Core.Bool.{true, false}
+use mathlib.Core.Bool.{true, false, not, _&&_}
 use mathlib.Core.List.{List, [], _∷_, _++_, append-assoc, append-nil}
 use native.Mathlib.Omega.{arith}
 use lib.Dec.{eqb}
@@ -11,8 +11,9 @@ use native.Mathlib.Numerals.{add-one}
 use borrow.Author.Tests.{eqb-false}
 use native.Mathlib.Nat.{add-zero}
 use Rattle.limits.specs.Answer.{numberOf}
-use Rattle.limits.proofs.Laws.Choice.{pick-no}
-use Rattle.limits.proofs.Laws.Lists.{length-tab}
+use Rattle.limits.specs.Lists.{all}
+use Rattle.limits.proofs.Laws.Choice.{pick-no, test, clash, and-left, and-right}
+use Rattle.limits.proofs.Laws.Lists.{length-tab, all-append}
 use Rattle.limits.specs.Events.{Event, event, events}
 use Rattle.mat.specs.Window.{Kept, outstanding}
 use Rattle.mat.specs.View.{outstandingOf, markAt, cellsAt, matState, matOf}
@@ -31,7 +32,7 @@ use Rattle.events.specs.State.{Moved, noCounts, added, unmoved}
 use Rattle.events.specs.Rules.{stepped}
 use Rattle.link.specs.Runs.{continued, next, afterAll, answers}
 use Rattle.events.specs.View.{linkState, soundLink, shown, Moves}
-use Rattle.link.specs.View.{running}
+use Rattle.link.specs.View.{refuses, running}
 use Rattle.events.proofs.Laws.Parts.{parts}
 use Rattle.link.proofs.Laws.Rises.{rises-of}
 
@@ -97,6 +98,9 @@ starts bytes supply rec ans k h =
       same-answers = refl;
     }
 
+pub starts-with : (bytes supply rec ans : List ℕ) (k : Link) (counts : Counts) → counts ≡ noCounts → soundLink k ≡ true → Going bytes supply rec ans k rec ans k counts 0
+starts-with bytes supply rec ans k counts e h = rw e (starts bytes supply rec ans k h)
+
 -- a refusal is not 0
 not-zero : (n : ℕ) → refuses n ≡ true → eqb n 0 ≡ false
 not-zero n e = test (eqb n 0) (λ q. absurd (clash (refuses n) e (ap not q))) (λ q. q)
@@ -154,9 +158,9 @@ module _ (bytes supply rec₀ ans₀ : List ℕ) (k : Link) (rec ans : List ℕ)
   goes-still e =
       let n = numberOf (r .answer) in
       let both-refuse : (all refuses (take i ans) && (refuses n && true)) ≡ true
-              = sym (all-append refuses (take i ans) (n ∷ []))
-              ∙ sym (ap (all refuses) (ap (λ j. take j (set ans i n)) (add-one i) ∙ take-suc-set ans i n fits))
-              ∙ e in
+      = sym (all-append refuses (take i ans) (n ∷ []))
+      ∙ sym (ap (all refuses) (ap (λ j. take j (set ans i n)) (add-one i) ∙ take-suc-set ans i n fits))
+      ∙ e in
       let refused = not-zero n (and-left (refuses n) true (and-right (all refuses (take i ans)) (refuses n && true) both-refuse)) in
       m .keeps .kept (λ y. eqb-false n 0 refused (m .answers .number ∙ y)) ∙ g .still (and-left (all refuses (take i ans)) (refuses n && true) both-refuse)
 

@@ -1,17 +1,18 @@
 -- A run of one event is that event.
 use Prim.Native.Nat.{ℕ, _≤_}
 use mathlib.Core.Path.{_≡_, refl, sym, _∙_, ap}
-use mathlib.Core.Bool.{true, false}
+use mathlib.Core.Bool.{true, false, not}
 use mathlib.Core.List.{List, [], _∷_}
 use native.Mathlib.Omega.{arith}
 use native.Mathlib.Nat.{zero-add}
 use lib.Dec.{eqb}
-use lib.ListN.{getD}
+use lib.ListN.{getD, take}
 use borrow.Author.Tests.{eq-eqb}
 use Rattle.limits.specs.declared.answer.Answer.{Answer}
 use Rattle.limits.specs.Answer.{numberOf}
+use Rattle.limits.specs.Lists.{all}
 use Rattle.limits.specs.Events.{Event, event}
-use Rattle.limits.proofs.Laws.Choice.{pick-yes, pick-no}
+use Rattle.limits.proofs.Laws.Choice.{pick-yes, pick-no, both}
 use Rattle.limits.proofs.Laws.Promise.{called-done}
 use Rattle.events.specs.declared.Link.{Link}
 use Rattle.events.specs.declared.Progress.{Progress}
@@ -19,7 +20,7 @@ use Rattle.events.specs.State.{LinkState, Moved, unmoved}
 use Rattle.events.specs.Rules.{answer, stepped}
 use Rattle.link.specs.Runs.{continued, next, afterAll, answers}
 use Rattle.events.specs.View.{linkState, soundLink, shown, Moves}
-use Rattle.link.specs.View.{Run, running}
+use Rattle.link.specs.View.{Run, refuses, running}
 use Rattle.events.proofs.Laws.Stays.{Stayed, stays-refused}
 
 next-first : (supply before : List ℕ) (s : LinkState) (e : Event) → next supply (unmoved s before) e ≡ stepped supply before s e
