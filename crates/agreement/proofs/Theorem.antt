@@ -6,7 +6,7 @@ use Rattle.limits.specs.Limits.{accepted}
 use Rattle.limits.proofs.Laws.Good.{good}
 use Rattle.unbounded.specs.Ends.{fresh}
 use Rattle.unbounded.specs.Lists.{afterAll}
-use Rattle.link.specs.View.{soundLink}
+use Rattle.events.specs.View.{soundLink}
 use Rattle.agreement.specs.Calls.{start, endOf, allEvents}
 use Rattle.agreement.specs.Agreed.{neverFull, Agreement}
 use Rattle.agreement.proofs.Laws.Codes.{none-full}

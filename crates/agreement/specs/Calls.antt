@@ -8,10 +8,10 @@ use Rattle.limits.specs.Answer.{numberOf}
 use Rattle.limits.specs.Lists.{joined}
 use Rattle.limits.specs.Questions.{pick, Question, firstNo}
 use Rattle.limits.specs.Events.{Event, event, events}
-use Rattle.link.specs.declared.Link.{Link}
-use Rattle.link.specs.declared.Counts.{Counts}
-use Rattle.link.specs.declared.Progress.{Progress}
-use Rattle.link.specs.State.{noCounts, added}
+use Rattle.events.specs.declared.Link.{Link}
+use Rattle.events.specs.declared.Counts.{Counts}
+use Rattle.events.specs.declared.Progress.{Progress}
+use Rattle.events.specs.State.{noCounts, added}
 use Rattle.link.specs.View.{Stepped, Ran, wholeRows, lentQuestions}
 
 -- a run with its event bytes and the contents of its answer buffer, or a single event

@@ -9,7 +9,7 @@ use Rattle.limits.specs.Tables.{Message, Data, Reply}
 use Rattle.mat.specs.Window.{Kept, MatState}
 use Rattle.pad.specs.Window.{Slot, empty, full, PadState}
 use Rattle.unbounded.specs.Ends.{Ends}
-use Rattle.link.specs.State.{LinkState}
+use Rattle.events.specs.State.{LinkState}
 
 -- mark and cells of number m at the mat
 abbrev pub keptOf : Ends → ℕ → Kept

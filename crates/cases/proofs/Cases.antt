@@ -17,9 +17,9 @@ use Rattle.pad.specs.Rules as pad
 use Rattle.unbounded.specs.Ends.{at}
 use Rattle.unbounded.specs.Rules.{after}
 use Rattle.unbounded.specs.Lists as unbounded
-use Rattle.link.specs.Rules.{stepped}
+use Rattle.events.specs.Rules.{stepped}
 use Rattle.link.specs.Runs as built
-use Rattle.link.specs.View.{linkState}
+use Rattle.events.specs.View.{linkState}
 use Rattle.cases.specs.Cases.{Holds, table, Every}
 
 infixr 4 _then_

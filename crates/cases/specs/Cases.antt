@@ -19,9 +19,10 @@ use Rattle.frames.specs.Layout.{reading}
 use Rattle.frames.specs.Rules.{readQuestions}
 use Rattle.unbounded.specs.Ends.{Ends, fresh}
 use Rattle.unbounded.specs.Lists as unbounded
-use Rattle.link.specs.State.{Moved, unmoved}
+use Rattle.events.specs.State.{Moved, unmoved}
 use Rattle.link.specs.Runs as built
-use Rattle.link.specs.View.{linkState, freshLink}
+use Rattle.events.specs.View.{linkState}
+use Rattle.link.specs.View.{freshLink}
 
 -- refused by a number, or answered with 0 and then this value
 pub data Outcome : Type 0 where

@@ -10,7 +10,7 @@ use Rattle.limits.specs.declared.Limits.{Limits}
 use Rattle.limits.specs.Questions.{pick, firstNo}
 use Rattle.limits.specs.Limits.{between, timesFit, waitFits, leastWait, windowFits, limitsQuestions}
 use Rattle.limits.proofs.Laws.Choice.{pick-yes, pick-no, split, test, three, and-right, and-no-right}
-use Rattle.link.specs.declared.Link.{Link}
+use Rattle.events.specs.declared.Link.{Link}
 use Rattle.exports.specs.Image.{imageOf, linkOf, stored, LinkFits}
 use Rattle.exports.specs.Calls.{capped, asked}
 use Rattle.exports.proofs.Laws.Image.{load-stored, load-image}

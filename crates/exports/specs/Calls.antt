@@ -9,8 +9,8 @@ use Rattle.limits.specs.declared.Limits.{Limits}
 use Rattle.limits.specs.Answer.{numberOf}
 use Rattle.limits.specs.Questions.{pick, Question, ask, firstNo}
 use Rattle.limits.specs.Limits.{limitsQuestions, accepted}
-use Rattle.link.specs.declared.Counts.{Counts}
-use Rattle.link.specs.declared.Progress.{Progress}
+use Rattle.events.specs.declared.Counts.{Counts}
+use Rattle.events.specs.declared.Progress.{Progress}
 use Rattle.link.specs.View.{freshLink, Stepped, Ran}
 use Rattle.ride.specs.declared.Outcome.{Outcome}
 use Rattle.ride.specs.Ride.{Rode}

@@ -12,7 +12,7 @@ use Rattle.mat.specs.declared.Mat.{Mat}
 use Rattle.pad.specs.declared.Pad.{Pad}
 use Rattle.air.specs.declared.datatable.DataTable.{DataTable}
 use Rattle.air.specs.declared.replytable.ReplyTable.{ReplyTable}
-use Rattle.link.specs.declared.Link.{Link}
+use Rattle.events.specs.declared.Link.{Link}
 
 -- `xs` in a buffer from `at` on; the rest of the buffer keeps its contents
 unfoldable pub placed : ℕ → List ℕ → List ℕ → List ℕ

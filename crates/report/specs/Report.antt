@@ -5,7 +5,7 @@ use lib.Dec.{eqb, leb}
 use lib.ListN.{length, drop, replicate}
 use Rattle.limits.specs.Questions.{pick, Question, ask, firstNo, Answers}
 use Rattle.unbounded.specs.Ends.{Ends}
-use Rattle.link.specs.declared.Counts.{Counts}
+use Rattle.events.specs.declared.Counts.{Counts}
 use Rattle.lines.specs.Input.{readable, limitsOf, supplyOf, eventBytes}
 use Rattle.lines.specs.Text.{eventLines, countsLine, refusedLine}
 use Rattle.ride.specs.Ride.{rideQuestions, endsOf, answersOf}

@@ -9,7 +9,7 @@ ghost use Rattle.lines.specs.Input.{readable};
 ghost use Rattle.lines.specs.Text.{eventLines, countsLine, refusedLine, Wrote};
 ghost use Rattle.report.specs.Report.{outputLength, noAnswers, textOf, Room, Reports};
 use limits::answer::Answer;
-use link::Counts;
+use events::Counts;
 
 pub struct Reported {
     pub answer: Answer,

@@ -8,8 +8,8 @@ use Rattle.limits.specs.Questions.{Question, Answers}
 use Rattle.limits.specs.Events.{events}
 use Rattle.unbounded.specs.Ends.{Ends, fresh}
 use Rattle.unbounded.specs.Lists as unbounded
-use Rattle.link.specs.declared.Counts.{Counts}
-use Rattle.link.specs.State.{noCounts}
+use Rattle.events.specs.declared.Counts.{Counts}
+use Rattle.events.specs.State.{noCounts}
 use Rattle.link.specs.View.{lentQuestions}
 use Rattle.ride.specs.declared.Outcome.{Outcome}
 

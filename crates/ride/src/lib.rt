@@ -3,7 +3,7 @@ ghost use mathlib.Core.Path.{_≡_};
 ghost use Rattle.ride.specs.Ride.{Rode};
 use limits::Limits;
 use limits::answer::Answer;
-use link::Counts;
+use events::Counts;
 
 pub struct Outcome {
     pub answer: Answer,

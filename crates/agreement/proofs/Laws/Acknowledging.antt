@@ -15,7 +15,7 @@ use Rattle.limits.specs.Events.{arriveReply}
 use Rattle.air.specs.Replies.{noReply}
 use Rattle.mat.specs.Window.{Kept, noRow}
 use Rattle.mat.specs.Rules.{startOf, marked, passing}
-use Rattle.link.specs.Rules as link
+use Rattle.events.specs.Rules as link
 use Rattle.unbounded.specs.Ends.{Ends}
 use Rattle.unbounded.specs.Rules.{questions, marks, replyAt}
 use Rattle.unbounded.proofs.Laws.Reads.{Reads}

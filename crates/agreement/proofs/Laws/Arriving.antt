@@ -13,7 +13,7 @@ use Rattle.limits.specs.Tables.{Message, Data, Reply, capacity, remove}
 use Rattle.pad.specs.Rules as pad
 use Rattle.unbounded.specs.Ends.{Ends}
 use Rattle.unbounded.specs.Rules as unbounded
-use Rattle.link.specs.Rules as link
+use Rattle.events.specs.Rules as link
 use Rattle.unbounded.proofs.Laws.Reads.{Reads}
 use Rattle.agreement.specs.Reading.{dataModulo, replyModulo, matOf, padOf, reading}
 use Rattle.limits.proofs.Laws.Mapped.{length-put, table-at, table-remove, table-put}

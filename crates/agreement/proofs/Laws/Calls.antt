@@ -17,8 +17,8 @@ use Rattle.mat.specs.Window.{MatState}
 use Rattle.mat.specs.View.{matState}
 use Rattle.pad.specs.Window.{PadState}
 use Rattle.pad.specs.View.{padState}
-use Rattle.link.specs.State.{LinkState, Moved}
-use Rattle.link.specs.View.{linkState, soundLink}
+use Rattle.events.specs.State.{LinkState, Moved}
+use Rattle.events.specs.View.{linkState, soundLink}
 use Rattle.agreement.specs.Reading.{reading}
 use Rattle.agreement.specs.Calls.{Made, Line, following, Chain, endOf, eventsOf, allEvents, allNumbers}
 use Rattle.agreement.specs.Agreed.{Same}

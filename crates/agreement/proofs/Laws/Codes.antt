@@ -9,8 +9,8 @@ use Rattle.limits.specs.Lists.{all}
 use Rattle.limits.specs.Questions.{Question, firstNo}
 use Rattle.limits.specs.Events.{Event, unknown, misfit, send, resend, arriveData, reply, arriveReply, loseData, loseReply, tick}
 use Rattle.limits.proofs.Laws.Choice.{and-left, and-right, both, pick-cases}
-use Rattle.link.specs.State.{LinkState}
-use Rattle.link.specs.Rules as link
+use Rattle.events.specs.State.{LinkState}
+use Rattle.events.specs.Rules as link
 use Rattle.link.specs.View.{wholeRows, lentQuestions}
 use Rattle.unbounded.specs.Ends.{Ends}
 use Rattle.unbounded.specs.Rules as unbounded

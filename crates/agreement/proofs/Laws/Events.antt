@@ -10,8 +10,8 @@ use Rattle.limits.specs.Events.{Event}
 use Rattle.limits.specs.Tables.{Message, Data, Reply}
 use Rattle.mat.specs.Window.{Kept}
 use Rattle.pad.specs.Window.{PadState}
-use Rattle.link.specs.State.{LinkState, Moved}
-use Rattle.link.specs.Rules as link
+use Rattle.events.specs.State.{LinkState, Moved}
+use Rattle.events.specs.Rules as link
 use Rattle.unbounded.specs.Ends.{Ends}
 use Rattle.unbounded.specs.Rules as unbounded
 use Rattle.agreement.specs.Reading.{reading}

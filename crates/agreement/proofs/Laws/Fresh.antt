@@ -25,9 +25,10 @@ use Rattle.air.proofs.Laws.Fresh.{no-data, no-replies, empty-data-sound, empty-
 use Rattle.unbounded.specs.Ends.{fresh}
 use Rattle.unbounded.proofs.Laws.Invariant.{fresh-inv}
 use Rattle.unbounded.proofs.Laws.Carried.{fresh-carried}
-use Rattle.link.specs.declared.Link.{Link}
+use Rattle.events.specs.declared.Link.{Link}
 use Rattle.link.specs.declared.Opening.{Opening}
-use Rattle.link.specs.View.{linkState, soundLink, freshLink, Opened}
+use Rattle.events.specs.View.{linkState, soundLink}
+use Rattle.link.specs.View.{freshLink, Opened}
 use Rattle.agreement.specs.Reading.{reading, matOf, padOf, timerOf}
 use Rattle.agreement.specs.Calls.{start}
 use Rattle.agreement.proofs.Laws.Chains.{shownLine}

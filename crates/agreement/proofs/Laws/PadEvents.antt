@@ -19,8 +19,8 @@ use Rattle.pad.specs.Rules as pad
 use Rattle.unbounded.specs.Ends as ends
 use Rattle.unbounded.specs.Ends.{Ends}
 use Rattle.unbounded.specs.Rules as unbounded
-use Rattle.link.specs.State.{LinkState, Moved, unmoved}
-use Rattle.link.specs.Rules as link
+use Rattle.events.specs.State.{LinkState, Moved, unmoved}
+use Rattle.events.specs.Rules as link
 use Rattle.unbounded.proofs.Laws.Reads.{Reads}
 use Rattle.agreement.specs.Reading.{dataModulo, replyModulo, matOf, padOf, reading}
 use Rattle.agreement.proofs.Laws.Events.{built, Room, Asks, Acts}

@@ -15,7 +15,7 @@ use Rattle.limits.specs.Tables.{Message, Data}
 use Rattle.limits.specs.Events.{unknown, misfit, send, resend}
 use Rattle.mat.specs.Window.{Kept, noRow}
 use Rattle.mat.specs.Rules.{sending, resending}
-use Rattle.link.specs.Rules as link
+use Rattle.events.specs.Rules as link
 use Rattle.unbounded.specs.Ends.{Ends}
 use Rattle.unbounded.specs.Rules.{questions}
 use Rattle.unbounded.proofs.Laws.Reads.{Reads}

@@ -12,8 +12,8 @@ use Rattle.limits.specs.declared.Limits.{Limits}
 use Rattle.limits.specs.Questions.{pick, firstNo}
 use Rattle.limits.specs.Events.{Event}
 use Rattle.limits.proofs.Laws.Good.{Good}
-use Rattle.link.specs.State.{Moved, unmoved}
-use Rattle.link.specs.Rules as link
+use Rattle.events.specs.State.{Moved, unmoved}
+use Rattle.events.specs.Rules as link
 use Rattle.link.specs.Runs as runs
 use Rattle.unbounded.specs.Ends.{Ends}
 use Rattle.unbounded.specs.Rules as unbounded

@@ -12,10 +12,10 @@ use Rattle.limits.specs.Answer.{numberOf}
 use Rattle.limits.specs.Questions.{pick, Question, ask, firstNo}
 use Rattle.limits.specs.Limits.{limitsQuestions, accepted}
 use Rattle.limits.proofs.Laws.Choice.{pick-yes, pick-no, both, clash, and-no-left, and-no-right}
-use Rattle.link.specs.declared.Link.{Link}
+use Rattle.events.specs.declared.Link.{Link}
 use Rattle.link.specs.declared.Opening.{Opening}
-use Rattle.link.specs.declared.Progress.{Progress}
-use Rattle.link.specs.declared.Counts.{Counts}
+use Rattle.events.specs.declared.Progress.{Progress}
+use Rattle.events.specs.declared.Counts.{Counts}
 use Rattle.link.specs.View.{freshLink, Opened}
 use Rattle.exports.specs.Image.{placed, stored, linkOf}
 use Rattle.exports.specs.Calls.{kindOf, openQuestions, OpenCall, countsList, OnImage, Asks28, roomy}

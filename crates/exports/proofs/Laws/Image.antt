@@ -14,7 +14,7 @@ use Rattle.mat.specs.declared.Mat.{Mat}
 use Rattle.pad.specs.declared.Pad.{Pad}
 use Rattle.air.specs.declared.datatable.DataTable.{DataTable}
 use Rattle.air.specs.declared.replytable.ReplyTable.{ReplyTable}
-use Rattle.link.specs.declared.Link.{Link}
+use Rattle.events.specs.declared.Link.{Link}
 use Rattle.exports.specs.Image.{placed, bit, limitsImage, matImage, padImage, dataImage, replyImage, imageOf, numbersAt, marksAt, limitsAt, matAt, padAt, dataAt, replyAt, linkOf, stored, Fits, LimitsFit, MatFits, PadFits, DataFits, ReplyFits, LinkFits}
 use Rattle.exports.proofs.Laws.Placed.{placed-then, placed-four, Holds, holds-left, holds-right, holds-placed, holds-word, holds-self}
 

@@ -8,8 +8,8 @@ use lib.ListN.{length}
 use borrow.Author.Tests.{le-leb, lt-leb}
 use Rattle.limits.specs.declared.Limits.{Limits}
 use Rattle.limits.specs.Answer.{numberOf}
-use Rattle.link.specs.declared.Link.{Link}
-use Rattle.link.specs.declared.Progress.{Progress}
+use Rattle.events.specs.declared.Link.{Link}
+use Rattle.events.specs.declared.Progress.{Progress}
 use Rattle.link.specs.View.{Stepped, Ran}
 use Rattle.ride.specs.declared.Outcome.{Outcome}
 use Rattle.ride.specs.Ride.{Rode}

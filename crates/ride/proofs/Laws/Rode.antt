@@ -18,12 +18,13 @@ use Rattle.limits.proofs.Laws.Questions.{first-stays, behind-passed}
 use Rattle.limits.proofs.Laws.Promise.{answers-refused}
 use Rattle.unbounded.specs.Ends.{fresh}
 use Rattle.unbounded.specs.Lists as unbounded
-use Rattle.link.specs.declared.Counts.{Counts}
+use Rattle.events.specs.declared.Counts.{Counts}
 use Rattle.link.specs.declared.Opening.{Opening}
-use Rattle.link.specs.declared.Progress.{Progress}
-use Rattle.link.specs.State.{noCounts, unmoved}
+use Rattle.events.specs.declared.Progress.{Progress}
+use Rattle.events.specs.State.{noCounts, unmoved}
 use Rattle.link.specs.Runs as runs
-use Rattle.link.specs.View.{linkState, soundLink, Opened, Ran, Run, running, shown, lentQuestions}
+use Rattle.events.specs.View.{linkState, soundLink, shown}
+use Rattle.link.specs.View.{Opened, Ran, Run, running, lentQuestions}
 use Rattle.agreement.specs.Calls.{run, Made, start, endOf, allEvents}
 use Rattle.agreement.specs.Agreed.{Same, Agreed}
 use Rattle.agreement.proofs.Laws.Shift.{length-answers}
