@@ -2,14 +2,14 @@
 use crate::limit;
 use crate::print::line;
 use air::datatable;
-use air::datatable::DataMessage;
 use air::datatable::DataTable;
+use air::messages::DataMessage;
+use air::messages::ReplyMessage;
 use air::replytable;
-use air::replytable::ReplyMessage;
 use air::replytable::ReplyTable;
 use limits::Limits;
 
-fn put_data(what: &[u8], l: Limits, t: DataTable, number: usize, life: u16, cell: u16) {
+fn put_data(what: &[u8], l: Limits, t: DataTable, number: u16, life: u16, cell: u16) {
     let r = datatable::put(
         l,
         t,
@@ -41,12 +41,9 @@ fn tick_data(what: &[u8], l: Limits, t: DataTable, d: u16) {
     line(what, answer);
 }
 
-// A data table of `count` messages, each with a life of 1.
+// A data table of `count` messages. Each word is 1: the life, the number and the cells.
 fn data_of(count: usize) -> DataTable {
-    let mut t = datatable::empty();
-    t.count = count;
-    t.lives = [1; 32];
-    t
+    datatable::assembled(count, [1; 576])
 }
 
 // Tables whose one message has a life of 0, or the number 4.
@@ -56,10 +53,10 @@ fn data_unsound() {
     t.count = 1;
     remove_data(b"data remove, life 0 in the table", l, t, 0);
     t = data_of(1);
-    t.numbers[0] = 4;
+    t.words[1] = 4;
     tick_data(b"data tick, number 2w in the table", l, t, 1);
     t = data_of(1);
-    t.cells[15] = 4096;
+    t.words[17] = 4096;
     read_data(b"data read, cell 4096 in the table", l, t, 0);
 }
 
@@ -101,7 +98,7 @@ pub fn data_tries() {
     data_unsound();
 }
 
-fn put_reply(what: &[u8], l: Limits, t: ReplyTable, first: usize, last: usize, life: u16) {
+fn put_reply(what: &[u8], l: Limits, t: ReplyTable, first: u16, last: u16, life: u16) {
     let r = replytable::put(l, t, ReplyMessage { first, last, life });
     let answer = r.answer;
     line(what, answer);
@@ -125,12 +122,9 @@ fn tick_reply(what: &[u8], l: Limits, t: ReplyTable, d: u16) {
     line(what, answer);
 }
 
-// A reply table of `count` messages, each with a life of 1.
+// A reply table of `count` messages. Each word is 1: the life, the first and the last number.
 fn replies_of(count: usize) -> ReplyTable {
-    let mut t = replytable::empty();
-    t.count = count;
-    t.lives = [1; 32];
-    t
+    replytable::assembled(count, [1; 96])
 }
 
 fn replies_unsound() {
@@ -139,10 +133,10 @@ fn replies_unsound() {
     t.count = 1;
     remove_reply(b"reply remove, life 0 in the table", l, t, 0);
     t = replies_of(1);
-    t.firsts[0] = 4;
+    t.words[1] = 4;
     tick_reply(b"reply tick, number 2w in the table", l, t, 1);
     t = replies_of(1);
-    t.lasts[0] = 2;
+    t.words[2] = 3;
     read_reply(b"reply read, span 3 of 2 in the table", l, t, 0);
 }
 
