@@ -63,6 +63,8 @@ fn unsound() {
 fn refused() {
     let l = limit::of(2, 1, 4);
     let mut record = [0u16; 32];
+    let mut short = [0u16; 31];
+    let mut empty = [0u16; 1];
     let none = pad::fresh();
     let both = two();
     arrive(b"pad data, new row", l, 1, 5);
@@ -70,14 +72,9 @@ fn refused() {
     run_length(b"pad run, nothing held", l, none);
     run_length(b"pad run, two rows", l, both);
     reply(b"pad reply, nothing held", l, none, &mut record);
-    reply(b"pad reply, empty record", l, both, &mut record[0..0]);
+    reply(b"pad reply, empty record", l, both, &mut empty[0..0]);
     reply(b"pad reply, 32 cells for two rows", l, both, &mut record);
-    reply(
-        b"pad reply, 31 cells for two rows",
-        l,
-        both,
-        &mut record[0..31],
-    );
+    reply(b"pad reply, 31 cells for two rows", l, both, &mut short);
     tick(b"pad tick 0", l, none, 0);
     tick(b"pad tick 65535", l, both, 65535);
 }
