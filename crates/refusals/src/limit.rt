@@ -12,22 +12,22 @@ pub fn of(window: usize, time: u16, wait: u16) -> Limits {
     }
 }
 
-fn opening(what: &[u8], l: Limits) {
-    let r = limits::accept(l);
+fn opening(what: &[u8], window: usize, time: u16, wait: u16) {
+    let r = limits::accept(of(window, time, wait));
     let answer = r.answer;
     line(what, answer);
 }
 
 pub fn tries() {
-    opening(b"opening w 1", of(1, 1, 0));
-    opening(b"opening w 32, longest times", of(32, 250, 1000));
-    opening(b"opening w 0", of(0, 1, 0));
-    opening(b"opening w 33", of(33, 1, 0));
-    opening(b"opening w largest", of(18446744073709551615, 1, 0));
-    opening(b"opening times 0", of(1, 0, 0));
-    opening(b"opening times 251", of(1, 251, 0));
-    opening(b"opening times 65535", of(1, 65535, 65535));
-    opening(b"opening wait 3, sum 3", of(1, 1, 3));
-    opening(b"opening wait 4, sum 3", of(1, 1, 4));
-    opening(b"opening wait 1001", of(1, 1, 1001));
+    opening(b"opening w 1", 1, 1, 0);
+    opening(b"opening w 32, longest times", 32, 250, 1000);
+    opening(b"opening w 0", 0, 1, 0);
+    opening(b"opening w 33", 33, 1, 0);
+    opening(b"opening w largest", 18446744073709551615, 1, 0);
+    opening(b"opening times 0", 1, 0, 0);
+    opening(b"opening times 251", 1, 251, 0);
+    opening(b"opening times 65535", 1, 65535, 65535);
+    opening(b"opening wait 3, sum 3", 1, 1, 3);
+    opening(b"opening wait 4, sum 3", 1, 1, 4);
+    opening(b"opening wait 1001", 1, 1, 1001);
 }

@@ -3,7 +3,7 @@ use Prim.Native.Nat.{ℕ, _≤_, _<_}
 use native.Mathlib.Omega.{arith}
 use borrow.Author.Tests.{ltb-true}
 use mathlib.Core.Path.{_≡_, refl, sym, _∙_, ap, ap₂}
-use mathlib.Core.Bool.{Bool, true, _&&_}
+use mathlib.Core.Bool.{Bool, _&&_}
 use mathlib.Core.List.{List, [], _∷_, map}
 use lib.Dec.{leb, ltb}
 use lib.ListN.{length, getD, length-map}
@@ -12,7 +12,7 @@ use Rattle.limits.specs.declared.answer.Answer.{Answer}
 use Rattle.limits.specs.Limits.{soundLimits}
 use Rattle.limits.specs.Lists.{tab, all}
 use Rattle.limits.specs.Questions.{Question, ask, firstNo}
-use Rattle.limits.specs.Tables.{Message, Data, Reply, onBody, put, remove, age, soundData, soundReply}
+use Rattle.limits.specs.Tables.{Message, Data, Reply, onBody, soundData, soundReply}
 use Rattle.limits.proofs.Laws.Lists.{all-map, length-tab, getD-tab}
 use Rattle.limits.proofs.Laws.Promise.{called-read}
 use Rattle.limits.proofs.Laws.Mapped.{table-at}
@@ -25,7 +25,7 @@ use Rattle.air.specs.declared.datatable.DataTable.{DataTable}
 use Rattle.air.specs.declared.replytable.ReplyTable.{ReplyTable}
 use Rattle.air.specs.declared.lent.Kind.{Kind}
 use Rattle.air.specs.declared.lent.Kind.the-variants.{OfData, OfReplies}
-use Rattle.air.specs.Rules.{roomQuestions, placeQuestions, soundMessage, soundMessages}
+use Rattle.air.specs.Rules.{placeQuestions, soundMessage, soundMessages}
 use Rattle.air.specs.Kinds.{widthOf, lifeOf, dataOf, replyOf, soundWords, Lent, lent, carried, soundLent, LentCall}
 use Rattle.air.specs.Data.{dataTable, dataMessages, noData, soundDataTable, DataCall}
 use Rattle.air.specs.Replies.{replyTable, replyMessages, noReply, soundReplyTable, ReplyCall}
