@@ -3,6 +3,7 @@
 use super::mistakes::{step, Mistake};
 use super::{limits, record, supply};
 use crate::built::{Counts, Link};
+use crate::checks::{damaged_links, made_up_links, openings, wide_numbers};
 use crate::compare::Case;
 use crate::differ::{difference, ride_difference, Pair};
 use crate::draw::{random_case, sound_link};
@@ -94,6 +95,8 @@ fn nothing_differs_from_the_right_link() {
         let compared = short.compare(&right).expect("nothing differs");
         assert_eq!(compared.lists, 23 * 23);
     }
+    let checks = [openings(&right), made_up_links(&right, 100), damaged_links(&right, 1), wide_numbers(&right)];
+    assert_eq!(checks.into_iter().find_map(Result::err), None);
 }
 
 #[test]
