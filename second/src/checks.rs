@@ -1,12 +1,11 @@
-//! What is put to the proved library: random lists, all short lists, bad limits, made-up links, buffers that are too short.
+//! What is put to the proved library: random lists, all short lists, bad limits, made-up links, numbers that are too wide.
 
-use crate::built::Link;
 use crate::compare::{different, Call, Case};
 use crate::differ::{difference, ride_difference, Pair};
 use crate::draw::{random_case, random_limits, sound_link};
-use crate::image::{image_of, IMAGE_LENGTH};
-use crate::library::{asked, Lent, Library};
+use crate::library::{Lent, Library};
 use crate::limits::{Limits, CELLS};
+use crate::matlink::{Matlink, NUMBERS};
 use crate::random::Random;
 use crate::short::{all_short, Compared, EVENTS};
 use crate::shrink::{flat, shortest, shown};
@@ -93,8 +92,8 @@ fn limits_of(window: usize, times: [u16; 3], resend_wait: u16) -> Limits {
     Limits { window, data_life: times[0], reply_life: times[1], reply_wait: times[2], resend_wait }
 }
 
-/// One event, or a run of three, on a given image.
-fn on_image(library: &dyn Library, image: &[u64], random: &mut Random, met: &mut [u64; 256]) -> Result<(), String> {
+/// One event, or a run of three, on a given link.
+fn on_link(library: &dyn Library, link: &Matlink, random: &mut Random, met: &mut [u64; 256]) -> Result<(), String> {
     let event = |random: &mut Random| [1 + random.below(8) as u8, random.one_of(&[0, 0, 1, 2, 31, 255])];
     let supply = vec![9; CELLS * random.below(3)];
     let record = vec![8; random.below(40) * CELLS + random.below(2)];
@@ -104,9 +103,9 @@ fn on_image(library: &dyn Library, image: &[u64], random: &mut Random, met: &mut
     } else {
         Call::One { kind, argument }
     };
-    let (answer, found) = Pair::made_up(image, &record).call(library, &call, &supply);
+    let (answer, found) = Pair::made_up(link.clone(), &record).call(library, &call, &supply);
     met[usize::from(answer)] += 1;
-    found.map_or(Ok(()), |text| Err(format!("{text}\n{call:?} on the image {image:?}")))
+    found.map_or(Ok(()), |text| Err(format!("{text}\n{call:?} on {link:?}")))
 }
 
 /// Sound links that no list need reach: questions 13, 18 and 19 arise here.
@@ -114,9 +113,9 @@ pub fn made_up_links(library: &dyn Library, count: u64) -> Outcome {
     let mut met = [0; 256];
     for seed in 0..count {
         let mut random = Random::new(seed);
-        let image = image_of(&sound_link(&mut random));
+        let link = Matlink::from(&sound_link(&mut random));
         for _ in 0..8 {
-            on_image(library, &image, &mut random, &mut met)
+            on_link(library, &link, &mut random, &mut met)
                 .map_err(|text| format!("library, made-up link of seed {seed}: {text}"))?;
         }
     }
@@ -124,83 +123,53 @@ pub fn made_up_links(library: &dyn Library, count: u64) -> Outcome {
     Ok(format!("library: {} calls on {count} made-up sound links; answers 13, 18, 19: {rare:?} times", 8 * count))
 }
 
-/// Sound links with each number of the image replaced by others: question 4 of every number there is.
-pub fn damaged_images(library: &dyn Library, links: u64) -> Outcome {
-    let (mut met, mut images) = ([0; 256], 0);
-    for seed in 0..links {
+/// Sound links with each number replaced by others: question 4 of every number there is, and marks other than 0 and 1.
+pub fn damaged_links(library: &dyn Library, count: u64) -> Outcome {
+    let (mut met, mut links) = ([0; 256], 0);
+    for seed in 0..count {
         let mut random = Random::new(seed);
-        let good = image_of(&sound_link(&mut random));
-        for at in 0..IMAGE_LENGTH {
-            for value in [0, 1, 32, 33, 64, 250, 4095, 4096, 65_535, 65_536, 65_537, u64::MAX, good[at] + 1] {
-                let mut image = good.clone();
-                image[at] = value;
+        let good = Matlink::from(&sound_link(&mut random)).numbers();
+        for at in 0..NUMBERS {
+            for value in [0, 1, 2, 32, 33, 64, 250, 256, 257, 4095, 4096, 65_535, good[at].wrapping_add(1)] {
+                let mut numbers = good.clone();
+                numbers[at] = value;
                 let what = || format!("library, link of seed {seed} with number {at} as {value}");
-                on_image(library, &image, &mut random, &mut met).map_err(|text| format!("{}: {text}", what()))?;
-                images += 1;
+                on_link(library, &Matlink::of_numbers(&numbers), &mut random, &mut met)
+                    .map_err(|text| format!("{}: {text}", what()))?;
+                links += 1;
             }
         }
     }
-    Ok(format!("library: {images} images with one number replaced, {} of them not sound", met[4]))
+    Ok(format!("library: {links} links with one number replaced, {} of them not sound", met[4]))
 }
 
-/// An image or a counts buffer that is too short: 28, and nothing is written.
-pub fn short_buffers(library: &dyn Library) -> Outcome {
-    let (_, link) = Link::open(limits_of(2, [1, 1, 1], 0));
-    let whole = image_of(&link);
-    let mut calls = 0;
-    for image_length in [0, 1, 5, IMAGE_LENGTH - 1, IMAGE_LENGTH] {
-        for counts_length in 0..4 {
-            let given = &whole[..image_length];
-            let short = image_length < IMAGE_LENGTH || counts_length < 3;
-            let expected = if short { 28 } else { 0 };
-            let (mut image, mut counts, mut record) = (given.to_vec(), vec![5; counts_length], [5; CELLS]);
-            let answer = library.step(&mut image, (8, 1), &[], &mut record, &mut counts);
-            let (mut again, mut more, mut answers) = (given.to_vec(), vec![5; counts_length], [5]);
-            let lent = Lent { events: &[8, 1], supply: &[], record: &mut record, answers: &mut answers, counts: &mut more };
-            let ran = library.run(&mut again, lent);
-            let kept = !short || (image == given && again == given && counts.iter().chain(&more).all(|count| *count == 5));
-            let found = different((answer, ran), (expected, expected), || "answers".into())
-                .or_else(|| different((kept, record), (true, [5; CELLS]), || "buffers are kept".into()))
-                .or_else(|| different(answers[0], if short { 5 } else { 0 }, || "answer byte".into()));
-            if let Some(text) = found {
-                return Err(format!("library, image of {image_length} and counts of {counts_length} numbers: {text}"));
-            }
-            calls += 2;
-        }
-    }
-    let mut image = vec![5; IMAGE_LENGTH - 1];
-    let answer = library.open(asked(limits_of(2, [1, 1, 1], 0)), &mut image);
-    let found = different((answer, image), (28, vec![5; IMAGE_LENGTH - 1]), || "opening in a short image".into());
-    found.map_or(Ok(format!("library: {} calls with short buffers", calls + 1)), Err)
-}
-
-/// Numbers wider than a link has: a time above 65,535 is refused as 65,535 is, and an event that is not two bytes answers 8.
+/// Numbers wider than a link has: a limit above 65,535 is refused as 65,535 is, and an event that is not two bytes answers 8.
 pub fn wide_numbers(library: &dyn Library) -> Outcome {
-    let good = (2, [1, 1, 1, 4]);
+    let good = [2, 1, 1, 1, 4];
+    let zeros = Matlink::filled(0);
     let mut calls = 0;
-    for place in 0..4 {
-        for time in [65_536, 65_537, 65_540, 1 << 31, u32::MAX] {
-            let mut wide = good;
-            wide.1[place] = time;
-            let mut image = vec![5; IMAGE_LENGTH];
-            let expected = if place < 3 { 2 } else { 3 };
-            let opened = library.open(wide, &mut image);
+    for (place, refusal) in [1, 2, 2, 2, 3].into_iter().enumerate() {
+        for wide in [65_536, 65_537, 65_538, 65_540, 1 << 31, u32::MAX] {
+            let mut asked = good;
+            asked[place] = wide;
+            let mut link = Matlink::filled(5);
+            let opened = library.open(&mut link, asked);
             let lent = Lent { events: &[], supply: &[], record: &mut [], answers: &mut [], counts: &mut [0; 3] };
-            let rode = library.ride(wide, lent);
-            let found = different((opened, rode), (expected, expected), || format!("times {:?}", wide.1))
-                .or_else(|| different(image, vec![5; IMAGE_LENGTH], || "image of a refused opening".into()));
+            let rode = library.ride(asked, lent);
+            let found = different((opened, rode), (refusal, refusal), || format!("limits {asked:?}"))
+                .or_else(|| different(&link, &zeros, || "link of a refused opening".into()));
             if let Some(text) = found {
                 return Err(format!("library, wide numbers: {text}"));
             }
             calls += 2;
         }
     }
-    let mut image = vec![0; IMAGE_LENGTH];
-    library.open(good, &mut image);
+    let mut link = zeros;
+    library.open(&mut link, good);
     for event in [(256, 0), (257, 0), (1, 256), (8, 257), (u32::MAX, 0), (8, u32::MAX), (264, 1)] {
-        let (given, mut counts) = (image.clone(), [5; 3]);
-        let answer = library.step(&mut image, event, &[1; CELLS], &mut [], &mut counts);
-        if (answer, counts) != (8, [0; 3]) || image != given {
+        let (given, mut counts) = (link.clone(), [5; 3]);
+        let answer = library.step(&mut link, event, &[1; CELLS], &mut [], &mut counts);
+        if (answer, counts) != (8, [0; 3]) || link != given {
             return Err(format!("library, event {event:?}: answer {answer}, counts {counts:?}"));
         }
         calls += 1;

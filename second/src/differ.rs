@@ -2,21 +2,33 @@
 
 use crate::built::{Counts, Link};
 use crate::compare::{different, Call, Case};
-use crate::image::{image_of, link_of, without_free, IMAGE_LENGTH};
-use crate::library::{asked, words, Lent, Library};
+use crate::library::{asked, rises, Lent, Library};
 use crate::limits::{number, Limits, Refusal, CELLS};
+use crate::matlink::{without_free, Matlink};
 
 /// What stands in a lent buffer that nothing must write.
-const BLANK: u64 = 0xAAAA_AAAA_AAAA_AAAA;
+const BLANK: u16 = 0xAAAA;
 
-/// Numbers behind the image and behind the counts, which must stay.
+/// The same for counts.
+const NO_COUNT: usize = usize::MAX;
+
+/// Numbers behind the kept link and behind the counts, which must stay.
 const BEHIND: usize = 2;
+
+/// A link as the library's caller keeps it, and what stands behind it.
+#[derive(Clone, Debug, PartialEq, Eq, Hash)]
+#[repr(C)]
+pub struct Kept {
+    /// The link.
+    pub link: Matlink,
+    behind: [u16; BEHIND],
+}
 
 /// Both links with their records after some calls.
 #[derive(Clone, PartialEq, Eq, Hash)]
 pub struct Pair {
-    /// The proved link's image, and numbers behind it.
-    pub image: Vec<u64>,
+    /// The proved link.
+    pub kept: Kept,
     /// The link here.
     pub link: Link,
     /// The record that the proved link wrote.
@@ -31,51 +43,50 @@ pub struct Pair {
 pub type Difference = Option<String>;
 
 impl Pair {
-    /// Both opened, and what differs then.
+    /// Both opened, and what differs then. A refused opening gives zeros.
     pub fn open(library: &dyn Library, limits: Limits, record: &[u16]) -> (Pair, u8, Difference) {
-        let mut image = vec![BLANK; IMAGE_LENGTH + BEHIND];
-        let answer = library.open(asked(limits), &mut image);
-        let (opened, fresh) = Link::open(limits);
-        // a refused opening writes nothing
-        let link = if opened.is_ok() { fresh } else { link_of(&[BLANK; IMAGE_LENGTH]) };
-        let (record, expected) = (record.to_vec(), record.to_vec());
-        let pair = Pair { image, link, record, expected, total: Counts::default() };
+        let mut pair = Pair::made_up(Matlink::filled(BLANK), record);
+        let answer = library.open(&mut pair.kept.link, asked(limits));
+        let (opened, link) = Link::open(limits);
+        let fresh = Matlink::from(&link);
+        pair.link = link;
         let found = different(answer, number(&opened), || format!("opening with {limits:?}"))
-            .or_else(|| different(link_of(&pair.image), pair.link.clone(), || "opened link".into()))
+            .or_else(|| different(&pair.kept.link, &fresh, || "opened link".into()))
             .or_else(|| pair.behind());
         (pair, answer, found)
     }
 
-    /// A link that a caller made up, given as an image.
-    pub fn made_up(image: &[u64], record: &[u16]) -> Pair {
-        let mut buffer = image.to_vec();
-        buffer.extend([BLANK; BEHIND]);
+    /// A link that a caller made up.
+    pub fn made_up(link: Matlink, record: &[u16]) -> Pair {
         let (record, expected) = (record.to_vec(), record.to_vec());
-        Pair { image: buffer, link: link_of(image), record, expected, total: Counts::default() }
+        let here = Link::from(&link);
+        let kept = Kept { link, behind: [BLANK; BEHIND] };
+        Pair { kept, link: here, record, expected, total: Counts::default() }
     }
 
     fn behind(&self) -> Difference {
-        different(&self.image[IMAGE_LENGTH..], &[BLANK; BEHIND][..], || "numbers behind the image".into())
+        different(self.kept.behind, [BLANK; BEHIND], || "numbers behind the link".into())
     }
 
     /// One call on both, with the supply and the record from behind the rows so far; what differs after it, and the number.
     pub fn call(&mut self, library: &dyn Library, call: &Call, supply: &[u16]) -> (u8, Difference) {
         let rest = &supply[self.total.sent * CELLS..];
         let at = self.total.recorded * CELLS;
-        let before = self.image.clone();
-        let mut counts = [BLANK; 3 + BEHIND];
+        let before = self.kept.clone();
+        let mut counts = [NO_COUNT; 3 + BEHIND];
+        let three = counts.first_chunk_mut().expect("three counts");
         let (answer, expected, found) = match call {
             Call::One { kind, argument } => {
                 let event = (u32::from(*kind), u32::from(*argument));
-                let answer = library.step(&mut self.image, event, rest, &mut self.record[at..], &mut counts);
+                let answer = library.step(&mut self.kept.link, event, rest, &mut self.record[at..], three);
                 let expected = self.link.step(*kind, *argument, rest, &mut self.expected[at..]);
                 (answer, expected, None)
             }
             Call::Run { events, answers } => {
                 let (mut proved, mut here) = (vec![0xAA; *answers], vec![0xAA; *answers]);
                 let record = &mut self.record[at..];
-                let lent = Lent { events, supply: rest, record, answers: &mut proved, counts: &mut counts };
-                let answer = library.run(&mut self.image, lent);
+                let lent = Lent { events, supply: rest, record, answers: &mut proved, counts: three };
+                let answer = library.run(&mut self.kept.link, lent);
                 let expected = self.link.run(events, rest, &mut self.expected[at..], &mut here);
                 (answer, expected, different(proved, here, || "answer buffer".into()))
             }
@@ -87,7 +98,7 @@ impl Pair {
             .or_else(|| self.behind())
             .or_else(|| match expected {
                 Ok(_) => self.link_difference(),
-                Err(_) => different(&self.image, &before, || "image of a refused call".into()),
+                Err(_) => different(&self.kept, &before, || "link of a refused call".into()),
             });
         self.total.add(expected.unwrap_or_default());
         (answer, found)
@@ -95,14 +106,14 @@ impl Pair {
 
     /// Both links, but for what is free.
     fn link_difference(&self) -> Difference {
-        let proved = link_of(&self.image);
+        let proved = Link::from(&self.kept.link);
         if !proved.sound() {
-            return Some(format!("the image holds no sound link: {proved:?}"));
+            return Some(format!("the kept link is not sound: {proved:?}"));
         }
         // a number of a place that is free may have 16 bits, which a byte here stands for
-        let fits = |(image, link): (&u64, u64)| *image == link || (link == 255 && (256..65_536).contains(image));
-        if !self.image.iter().zip(image_of(&proved)).all(fits) {
-            return Some("the image holds numbers that no link has".into());
+        let fits = |(kept, link): (u16, u16)| kept == link || (link == 255 && kept > 255);
+        if !self.kept.link.numbers().into_iter().zip(Matlink::from(&proved).numbers()).all(fits) {
+            return Some("the kept link has numbers that no link has".into());
         }
         let (p, e) = (without_free(&proved), without_free(&self.link));
         different(p.limits, e.limits, || "limits".into())
@@ -114,9 +125,9 @@ impl Pair {
 }
 
 /// Three counts, 0 where the call was refused; the numbers behind them stay.
-fn counts_difference(counts: &[u64], expected: &Result<Counts, Refusal>) -> Difference {
-    let mut all = [BLANK; 3 + BEHIND];
-    all[..3].copy_from_slice(&words(expected.unwrap_or_default()));
+fn counts_difference(counts: &[usize], expected: &Result<Counts, Refusal>) -> Difference {
+    let mut all = [NO_COUNT; 3 + BEHIND];
+    all[..3].copy_from_slice(&rises(expected.unwrap_or_default()));
     different(counts, &all[..], || "counts".into())
 }
 
@@ -131,12 +142,13 @@ pub fn difference(library: &dyn Library, case: &Case) -> Difference {
     })
 }
 
-/// The first difference of a ride: an opening and a run of these events, without an image.
+/// The first difference of a ride: an opening and a run of these events, without a kept link.
 pub fn ride_difference(library: &dyn Library, case: &Case, events: &[u8], answers: usize) -> Difference {
     let (mut record, mut expected) = (case.record.clone(), case.record.clone());
     let (mut proved, mut here) = (vec![0xAA; answers], vec![0xAA; answers]);
-    let mut counts = [BLANK; 3 + BEHIND];
-    let lent = Lent { events, supply: &case.supply, record: &mut record, answers: &mut proved, counts: &mut counts };
+    let mut counts = [NO_COUNT; 3 + BEHIND];
+    let three = counts.first_chunk_mut().expect("three counts");
+    let lent = Lent { events, supply: &case.supply, record: &mut record, answers: &mut proved, counts: three };
     let answer = library.ride(asked(case.limits), lent);
     let (opened, mut link) = Link::open(case.limits);
     let done = opened.and_then(|_| link.run(events, &case.supply, &mut expected, &mut here));

@@ -15,9 +15,9 @@ pub mod draw;
 pub mod frame_checks;
 pub mod frame_lists;
 pub mod frames;
-pub mod image;
 pub mod library;
 pub mod limits;
+pub mod matlink;
 #[cfg(feature = "proved")]
 pub mod proved;
 pub mod random;

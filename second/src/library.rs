@@ -1,16 +1,21 @@
-//! The calls of the proved library on numbers and slices, as a trait, so that a test can put a wrong one in its place.
+//! The calls of the proved library on the structs of its header, as a trait, so that a test can put a wrong one in its place.
 
 use crate::built::Counts;
 use crate::limits::Limits;
+use crate::matlink::{Matlink, MatlinkFrame};
 
-/// Limits as numbers that a caller may pass wrong: the window, then data life, reply life, reply wait and resend wait.
-pub type Asked = (u64, [u32; 4]);
+/// Limits as numbers that a caller may pass wrong: window, data life, reply life, reply wait and resend wait.
+pub type Asked = [u32; 5];
 
-/// Limits as a caller passes them.
+/// Limits as a caller passes them. A window that 32 bits do not hold becomes the largest number: question 1 refuses both.
 pub fn asked(limits: Limits) -> Asked {
     let Limits { window, data_life, reply_life, reply_wait, resend_wait } = limits;
-    (window as u64, [data_life, reply_life, reply_wait, resend_wait].map(u32::from))
+    let [a, b, c, d] = [data_life, reply_life, reply_wait, resend_wait].map(u32::from);
+    [u32::try_from(window).unwrap_or(u32::MAX), a, b, c, d]
 }
+
+/// Rows sent, acknowledged and recorded.
+pub type Rises = [usize; 3];
 
 /// What a caller lends to a run.
 pub struct Lent<'a> {
@@ -23,37 +28,34 @@ pub struct Lent<'a> {
     /// One byte for each event.
     pub answers: &'a mut [u8],
     /// Rows sent, acknowledged and recorded.
-    pub counts: &'a mut [u64],
+    pub counts: &'a mut Rises,
 }
 
-/// The calls that keep a link in an image. Each gives the number of its answer.
+/// The calls for a link that the caller keeps. Each gives the number of its answer.
 pub trait Library {
-    /// Opens a link in the image.
-    fn open(&self, asked: Asked, image: &mut [u64]) -> u8;
+    /// Opens a link.
+    fn open(&self, link: &mut Matlink, asked: Asked) -> u8;
 
     /// A call for one event: kind and argument, which need not be bytes.
-    fn step(&self, image: &mut [u64], event: (u32, u32), supply: &[u16], record: &mut [u16], counts: &mut [u64]) -> u8;
+    fn step(&self, link: &mut Matlink, event: (u32, u32), supply: &[u16], record: &mut [u16], counts: &mut Rises) -> u8;
 
     /// A run.
-    fn run(&self, image: &mut [u64], lent: Lent) -> u8;
+    fn run(&self, link: &mut Matlink, lent: Lent) -> u8;
 
-    /// An opening and one run, without an image.
+    /// An opening and one run, without a link of the caller's.
     fn ride(&self, asked: Asked, lent: Lent) -> u8;
 }
 
-/// The calls for frames. Each gives the number of its answer; a writer also gives the count of bytes.
+/// The calls for frames. Each gives the number of its answer; the writer also gives the count of bytes.
 pub trait FrameLibrary {
-    /// Reads a frame into 21 fields: kind, life, window, number or first, last, 16 cells.
-    fn read_frame(&self, frame: &[u8], fields: &mut [u64]) -> u8;
+    /// Reads a frame.
+    fn read_frame(&self, bytes: &[u8], out: &mut MatlinkFrame) -> u8;
 
-    /// Writes a data frame.
-    fn write_data(&self, life: u32, window: u64, number: u64, row: &[u16], buffer: &mut [u8], count: &mut u64) -> u8;
-
-    /// Writes a reply frame.
-    fn write_reply(&self, life: u32, window: u64, numbers: [u64; 2], buffer: &mut [u8], count: &mut u64) -> u8;
+    /// Writes a frame.
+    fn write_frame(&self, frame: &MatlinkFrame, buffer: &mut [u8], count: &mut usize) -> u8;
 }
 
 /// The three counts as the library writes them.
-pub fn words(counts: Counts) -> [u64; 3] {
-    [counts.sent, counts.acknowledged, counts.recorded].map(|count| count as u64)
+pub fn rises(counts: Counts) -> Rises {
+    [counts.sent, counts.acknowledged, counts.recorded]
 }

@@ -1,35 +1,59 @@
-//! The proved static library (feature `proved`). A slice is passed as a pointer and a length.
+//! The proved static library (feature `proved`). An array is passed as a pointer, a slice as a pointer and a length.
+//!
+//! The functions of the C header are `static inline` and not in the library, so each call here lends as they do. What it lends
+//! it takes back whatever the answer is, so that a refused call that wrote something is found out.
 
-use crate::library::{Asked, FrameLibrary, Lent, Library};
+use crate::library::{Asked, FrameLibrary, Lent, Library, Rises};
+use crate::matlink::{Matlink, MatlinkFrame};
 
 #[link(name = "exports", kind = "static")]
 unsafe extern "C" {
-    fn matlink_open(
-        window: u64,
+    fn matlink_lent_open(
+        head: *mut u16,
+        mat_mark: *mut u16,
+        mat_timer: *mut u16,
+        mat_cell: *mut u16,
+        pad_mark: *mut u16,
+        pad_timer: *mut u16,
+        pad_cell: *mut u16,
+        data: *mut u16,
+        reply: *mut u16,
+        window: u32,
         data_life: u32,
         reply_life: u32,
         reply_wait: u32,
         resend_wait: u32,
-        image: *mut u64,
-        image_length: usize,
     ) -> u8;
 
-    fn matlink_step(
-        image: *mut u64,
-        image_length: usize,
+    fn matlink_lent_step(
+        head: *mut u16,
+        mat_mark: *mut u16,
+        mat_timer: *mut u16,
+        mat_cell: *mut u16,
+        pad_mark: *mut u16,
+        pad_timer: *mut u16,
+        pad_cell: *mut u16,
+        data: *mut u16,
+        reply: *mut u16,
         kind: u32,
         argument: u32,
         supply: *const u16,
         supply_length: usize,
         record: *mut u16,
         record_length: usize,
-        counts: *mut u64,
-        counts_length: usize,
+        counts: *mut usize,
     ) -> u8;
 
-    fn matlink_run(
-        image: *mut u64,
-        image_length: usize,
+    fn matlink_lent_run(
+        head: *mut u16,
+        mat_mark: *mut u16,
+        mat_timer: *mut u16,
+        mat_cell: *mut u16,
+        pad_mark: *mut u16,
+        pad_timer: *mut u16,
+        pad_cell: *mut u16,
+        data: *mut u16,
+        reply: *mut u16,
         events: *const u8,
         events_length: usize,
         supply: *const u16,
@@ -38,12 +62,11 @@ unsafe extern "C" {
         record_length: usize,
         answers: *mut u8,
         answers_length: usize,
-        counts: *mut u64,
-        counts_length: usize,
+        counts: *mut usize,
     ) -> u8;
 
-    fn matlink_ride(
-        window: u64,
+    fn matlink_lent_ride(
+        window: u32,
         data_life: u32,
         reply_life: u32,
         reply_wait: u32,
@@ -56,49 +79,62 @@ unsafe extern "C" {
         record_length: usize,
         answers: *mut u8,
         answers_length: usize,
-        counts: *mut u64,
-        counts_length: usize,
+        counts: *mut usize,
     ) -> u8;
 
-    fn matlink_read_frame(frame: *const u8, frame_length: usize, fields: *mut u64, fields_length: usize) -> u8;
+    fn matlink_lent_read_frame(frame: *const u8, frame_length: usize, head: *mut u16, cells: *mut u16) -> u8;
 
-    fn matlink_write_data(
-        life: u32,
-        window: u64,
-        number: u64,
-        row: *const u16,
-        row_length: usize,
+    fn matlink_lent_write_frame(
+        head: *const u16,
+        cells: *const u16,
         buffer: *mut u8,
         buffer_length: usize,
-        count: *mut u64,
-    ) -> u8;
-
-    fn matlink_write_reply(
-        life: u32,
-        window: u64,
-        first: u64,
-        last: u64,
-        buffer: *mut u8,
-        buffer_length: usize,
-        count: *mut u64,
+        count: *mut usize,
     ) -> u8;
 }
 
-/// The library's calls. Each is handed slices that are whole and do not overlap, as it asks.
+/// The library's calls. Each is handed arrays and slices that are whole and do not overlap, as it asks.
 pub struct Proved;
 
 impl Library for Proved {
-    fn open(&self, asked: Asked, image: &mut [u64]) -> u8 {
-        let (window, [data_life, reply_life, reply_wait, resend_wait]) = asked;
-        let length = image.len();
-        unsafe { matlink_open(window, data_life, reply_life, reply_wait, resend_wait, image.as_mut_ptr(), length) }
+    fn open(&self, link: &mut Matlink, asked: Asked) -> u8 {
+        let [window, data_life, reply_life, reply_wait, resend_wait] = asked;
+        let mut head = link.head();
+        let answer = unsafe {
+            matlink_lent_open(
+                head.as_mut_ptr(),
+                link.mat_mark.as_mut_ptr(),
+                link.mat_timer.as_mut_ptr(),
+                link.mat_cell.as_mut_ptr(),
+                link.pad_mark.as_mut_ptr(),
+                link.pad_timer.as_mut_ptr(),
+                link.pad_cell.as_mut_ptr(),
+                link.data.as_mut_ptr(),
+                link.reply.as_mut_ptr(),
+                window,
+                data_life,
+                reply_life,
+                reply_wait,
+                resend_wait,
+            )
+        };
+        link.set_head(head);
+        answer
     }
 
-    fn step(&self, image: &mut [u64], event: (u32, u32), supply: &[u16], record: &mut [u16], counts: &mut [u64]) -> u8 {
-        unsafe {
-            matlink_step(
-                image.as_mut_ptr(),
-                image.len(),
+    fn step(&self, link: &mut Matlink, event: (u32, u32), supply: &[u16], record: &mut [u16], counts: &mut Rises) -> u8 {
+        let mut head = link.head();
+        let answer = unsafe {
+            matlink_lent_step(
+                head.as_mut_ptr(),
+                link.mat_mark.as_mut_ptr(),
+                link.mat_timer.as_mut_ptr(),
+                link.mat_cell.as_mut_ptr(),
+                link.pad_mark.as_mut_ptr(),
+                link.pad_timer.as_mut_ptr(),
+                link.pad_cell.as_mut_ptr(),
+                link.data.as_mut_ptr(),
+                link.reply.as_mut_ptr(),
                 event.0,
                 event.1,
                 supply.as_ptr(),
@@ -106,17 +142,26 @@ impl Library for Proved {
                 record.as_mut_ptr(),
                 record.len(),
                 counts.as_mut_ptr(),
-                counts.len(),
             )
-        }
+        };
+        link.set_head(head);
+        answer
     }
 
-    fn run(&self, image: &mut [u64], lent: Lent) -> u8 {
+    fn run(&self, link: &mut Matlink, lent: Lent) -> u8 {
         let Lent { events, supply, record, answers, counts } = lent;
-        unsafe {
-            matlink_run(
-                image.as_mut_ptr(),
-                image.len(),
+        let mut head = link.head();
+        let answer = unsafe {
+            matlink_lent_run(
+                head.as_mut_ptr(),
+                link.mat_mark.as_mut_ptr(),
+                link.mat_timer.as_mut_ptr(),
+                link.mat_cell.as_mut_ptr(),
+                link.pad_mark.as_mut_ptr(),
+                link.pad_timer.as_mut_ptr(),
+                link.pad_cell.as_mut_ptr(),
+                link.data.as_mut_ptr(),
+                link.reply.as_mut_ptr(),
                 events.as_ptr(),
                 events.len(),
                 supply.as_ptr(),
@@ -126,16 +171,17 @@ impl Library for Proved {
                 answers.as_mut_ptr(),
                 answers.len(),
                 counts.as_mut_ptr(),
-                counts.len(),
             )
-        }
+        };
+        link.set_head(head);
+        answer
     }
 
     fn ride(&self, asked: Asked, lent: Lent) -> u8 {
         let Lent { events, supply, record, answers, counts } = lent;
-        let (window, [data_life, reply_life, reply_wait, resend_wait]) = asked;
+        let [window, data_life, reply_life, reply_wait, resend_wait] = asked;
         unsafe {
-            matlink_ride(
+            matlink_lent_ride(
                 window,
                 data_life,
                 reply_life,
@@ -150,24 +196,22 @@ impl Library for Proved {
                 answers.as_mut_ptr(),
                 answers.len(),
                 counts.as_mut_ptr(),
-                counts.len(),
             )
         }
     }
 }
 
 impl FrameLibrary for Proved {
-    fn read_frame(&self, frame: &[u8], fields: &mut [u64]) -> u8 {
-        unsafe { matlink_read_frame(frame.as_ptr(), frame.len(), fields.as_mut_ptr(), fields.len()) }
+    fn read_frame(&self, bytes: &[u8], out: &mut MatlinkFrame) -> u8 {
+        let mut head = out.head();
+        let answer =
+            unsafe { matlink_lent_read_frame(bytes.as_ptr(), bytes.len(), head.as_mut_ptr(), out.cell.as_mut_ptr()) };
+        out.set_head(head);
+        answer
     }
 
-    fn write_data(&self, life: u32, window: u64, number: u64, row: &[u16], buffer: &mut [u8], count: &mut u64) -> u8 {
-        let (cells, bytes) = (row.len(), buffer.len());
-        unsafe { matlink_write_data(life, window, number, row.as_ptr(), cells, buffer.as_mut_ptr(), bytes, count) }
-    }
-
-    fn write_reply(&self, life: u32, window: u64, numbers: [u64; 2], buffer: &mut [u8], count: &mut u64) -> u8 {
-        let [first, last] = numbers;
-        unsafe { matlink_write_reply(life, window, first, last, buffer.as_mut_ptr(), buffer.len(), count) }
+    fn write_frame(&self, frame: &MatlinkFrame, buffer: &mut [u8], count: &mut usize) -> u8 {
+        let head = frame.head();
+        unsafe { matlink_lent_write_frame(head.as_ptr(), frame.cell.as_ptr(), buffer.as_mut_ptr(), buffer.len(), count) }
     }
 }

@@ -1,28 +1,60 @@
 #!/usr/bin/env bash
-# Prints the table of docs/BENCHMARK.md. Not part of the gate: times depend on the machine.
+# Prints the tables of docs/BENCHMARK.md. Not part of the gate: times depend on the machine.
 set -euo pipefail
 cd "$(dirname "$0")/../.."
-mkdir -p target/bench
-rt staticlib exports >target/bench/log 2>&1 || { tail -n 20 target/bench/log; exit 1; }
-sum=$(sha256sum target/staticlib/libexports.a | cut -c 1-16)
+out=target/bench
+mkdir -p "$out"
+rt staticlib exports >"$out/log" 2>&1 || { tail -n 20 "$out/log"; exit 1; }
+library=target/staticlib/libexports.a
+sum=$(sha256sum "$library" | cut -c 1-16)
 RUSTFLAGS="-L native=$PWD/target/staticlib -C metadata=$sum" CARGO_TARGET_DIR=second/target/proved \
     cargo build --quiet --release --offline --features proved --bin bench --manifest-path second/Cargo.toml
 bench=second/target/proved/release/bench
+steps=$out/steps
+cc -std=gnu11 -Wall -Wextra -O2 -I c/include -o "$steps" tests/by-hand/steps.c "$library"
 
-# instructions WHO FUNCTION RIDE: what callgrind counts within the function on one run of the ride
+# instructions FUNCTION COMMAND..: what callgrind counts within the function
 instructions() {
-    valgrind --tool=callgrind --toggle-collect="$2" --callgrind-out-file="target/bench/$1.$3" "$bench" "$1" "$3" 2>&1 |
-        sed -n 's/.*Collected : //p'
+    valgrind --tool=callgrind --toggle-collect="$1" --callgrind-out-file="$out/callgrind" "${@:2}" 2>&1 | sed -n 's/.*Collected : //p'
 }
 
 echo '| ride | w | events | refused | instructions per event, proved | second | ratio | million events per second, proved | second | ratio |'
 echo '|---|---|---|---|---|---|---|---|---|---|'
 n=0
-"$bench" time >target/bench/times
+"$bench" time >"$out/times"
 while IFS=$'\t' read -r name w events refused proved second; do
-    p=$(instructions proved matlink_run "$n")
-    s=$(instructions second second_run "$n")
+    p=$(instructions matlink_lent_run "$bench" proved "$n")
+    s=$(instructions second_run "$bench" second "$n")
     awk -v name="$name" -v w="$w" -v e="$events" -v r="$refused" -v pt="$proved" -v st="$second" -v p="$p" -v s="$s" 'BEGIN {
         printf "| %s | %d | %d | %d | %.0f | %.0f | %.1f | %.2f | %.2f | %.1f |\n", name, w, e, r, p/e, s/e, p/s, pt/1e6, st/1e6, st/pt }'
     n=$((n + 1))
-done <target/bench/times
+done <"$out/times"
+
+echo
+echo '| ride | w | events | instructions per event, matlink_lent_step | matlink_step | million events per second |'
+echo '|---|---|---|---|---|---|'
+"$steps" list >"$out/rides"
+while IFS=$'\t' read -r n name w events; do
+    lent=$(instructions matlink_lent_step "$steps" ride "$n")
+    whole=$(instructions one_step "$steps" ride "$n")
+    awk -v name="$name" -v w="$w" -v e="$events" -v l="$lent" -v c="$whole" -v t="$("$steps" time "$n")" 'BEGIN {
+        printf "| %s | %d | %d | %.0f | %.0f | %.2f |\n", name, w, e, l/e, c/e, t }'
+done <"$out/rides"
+
+echo
+echo '| function | bytes of stack |'
+echo '|---|---|'
+"$steps" stack | sed 's/\(.*\)\t\(.*\)/| \1 | \2 |/'
+
+# code FUNCTION..: bytes of code and of constants, with all that they call inside the library
+code() {
+    ld --gc-sections --unresolved-symbols=ignore-all -e "$1" $(printf -- '-u %s ' "$@") -o "$out/code" "$library"
+    size -A -d "$out/code" | awk '$1 ~ /^\.text/ { code += $2 } $1 ~ /^\.rodata/ { constants += $2 } END { print code " | " constants + 0 }'
+}
+
+echo
+echo '| functions | bytes of code | of constants |'
+echo '|---|---|---|'
+for name in open step run; do echo "| matlink_lent_$name | $(code "matlink_lent_$name") |"; done
+echo "| these three together | $(code matlink_lent_open matlink_lent_step matlink_lent_run) |"
+echo "| all six | $(code matlink_lent_{open,step,run,ride,read_frame,write_frame}) |"

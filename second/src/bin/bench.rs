@@ -1,11 +1,11 @@
 //! Events per second of the proved run and of the run here, and single runs for callgrind to count.
 //!
 //! `bench time` prints a line for each ride: name, window, events, how many are refused, and events per second of both. `bench proved N` and
-//! `bench second N` do ride N once; their work stands in matlink_run and in second_run.
+//! `bench second N` do ride N once; their work stands in matlink_lent_run and in second_run.
 
 use second::built::Link;
-use second::image::IMAGE_LENGTH;
-use second::library::{asked, Lent, Library};
+use second::library::{asked, Lent, Library, Rises};
+use second::matlink::Matlink;
 use second::proved::Proved;
 use second::rides::{all_rides, Ride};
 use std::hint::black_box;
@@ -19,25 +19,25 @@ const TIMES: usize = 30;
 
 /// Buffers that the caller lends, the same for both.
 struct Buffers {
-    image: Vec<u64>,
+    kept: Matlink,
     link: Link,
     record: Vec<u16>,
     answers: Vec<u8>,
-    counts: [u64; 3],
+    counts: Rises,
 }
 
 impl Buffers {
     fn new(ride: &Ride) -> Buffers {
-        let mut image = vec![0; IMAGE_LENGTH];
-        assert_eq!(Proved.open(asked(ride.limits), &mut image), 0);
+        let mut kept = Matlink::filled(0);
+        assert_eq!(Proved.open(&mut kept, asked(ride.limits)), 0);
         let (opened, link) = Link::open(ride.limits);
         assert_eq!(opened, Ok(()));
-        Buffers { image, link, record: vec![0; ride.supply.len()], answers: vec![0; ride.events.len() / 2], counts: [0; 3] }
+        Buffers { kept, link, record: vec![0; ride.supply.len()], answers: vec![0; ride.events.len() / 2], counts: [0; 3] }
     }
 
     fn proved(&mut self, ride: &Ride) -> u8 {
-        let Buffers { image, record, answers, counts, .. } = self;
-        Proved.run(image, Lent { events: &ride.events, supply: &ride.supply, record, answers, counts })
+        let Buffers { kept, record, answers, counts, .. } = self;
+        Proved.run(kept, Lent { events: &ride.events, supply: &ride.supply, record, answers, counts })
     }
 
     fn second(&mut self, ride: &Ride) -> bool {
@@ -58,7 +58,7 @@ fn rate(ride: &Ride, run: impl Fn(&mut Buffers)) -> f64 {
     let mut best = f64::MAX;
     for _ in 0..TIMES {
         let fresh = Buffers::new(ride);
-        (lent.image, lent.link) = (fresh.image, fresh.link);
+        (lent.kept, lent.link) = (fresh.kept, fresh.link);
         let start = Instant::now();
         run(black_box(&mut lent));
         best = best.min(start.elapsed().as_secs_f64());

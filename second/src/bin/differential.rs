@@ -26,8 +26,7 @@ fn library() {
     done(Instant::now(), checks::short_lists(proved, 7));
     done(Instant::now(), checks::openings(proved));
     done(Instant::now(), checks::made_up_links(proved, 10_000));
-    done(Instant::now(), checks::damaged_images(proved, 10));
-    done(Instant::now(), checks::short_buffers(proved));
+    done(Instant::now(), checks::damaged_links(proved, 10));
     done(Instant::now(), checks::wide_numbers(proved));
     done(Instant::now(), frame_checks::readings(proved));
     done(Instant::now(), frame_checks::writings(proved, 200_000));

@@ -4,6 +4,7 @@ use crate::frame_checks::{readings, writings};
 use crate::frames::{read, write, Frame};
 use crate::library::FrameLibrary;
 use crate::limits::number;
+use crate::matlink::MatlinkFrame;
 
 /// What is wrong.
 #[derive(Clone, Copy, Debug, PartialEq)]
@@ -15,18 +16,47 @@ enum Wrong {
     Span,
     /// One byte behind the frame is written.
     Behind,
-    /// A refused reading writes a field.
-    Field,
+    /// A refused reading writes a number.
+    Number,
     /// A window is cut to a byte.
     Cut,
+    /// A kind is cut to a byte.
+    Kind,
 }
 
 struct StandIn(Wrong);
 
-impl StandIn {
-    fn write(&self, frame: Frame, buffer: &mut [u8], count: &mut u64) -> u8 {
+impl FrameLibrary for StandIn {
+    fn read_frame(&self, bytes: &[u8], out: &mut MatlinkFrame) -> u8 {
+        match read(bytes) {
+            Ok(Frame::Data { life: 250, .. }) if self.0 == Wrong::Life => 26,
+            Ok(Frame::Reply { window: 32, first, last, .. }) if self.0 == Wrong::Span && first + 31 == last => 27,
+            Ok(frame) => {
+                *out = MatlinkFrame::from(&frame);
+                0
+            }
+            Err(refusal) => {
+                if self.0 == Wrong::Number {
+                    out.kind = 0;
+                }
+                refusal as u8
+            }
+        }
+    }
+
+    fn write_frame(&self, frame: &MatlinkFrame, buffer: &mut [u8], count: &mut usize) -> u8 {
+        let mut frame = frame.clone();
+        match self.0 {
+            Wrong::Cut => frame.window %= 256,
+            Wrong::Kind => frame.kind %= 256,
+            _ => {}
+        }
+        *count = 0;
+        let Some(frame) = frame.frame() else {
+            return 22;
+        };
         let written = write(&frame, buffer);
-        *count = written.unwrap_or(0) as u64;
+        *count = written.unwrap_or(0);
         if let (Ok(length), Wrong::Behind) = (written, self.0) {
             if let Some(byte) = buffer.get_mut(length) {
                 *byte = 0;
@@ -34,62 +64,11 @@ impl StandIn {
         }
         number(&written)
     }
-
-    fn byte(&self, number: u64) -> u8 {
-        if self.0 == Wrong::Cut {
-            number as u8
-        } else {
-            number.min(255) as u8
-        }
-    }
-}
-
-impl FrameLibrary for StandIn {
-    fn read_frame(&self, frame: &[u8], fields: &mut [u64]) -> u8 {
-        if fields.len() < 21 {
-            return 28;
-        }
-        match read(frame) {
-            Ok(Frame::Data { life: 250, .. }) if self.0 == Wrong::Life => 26,
-            Ok(Frame::Reply { window: 32, first, last, .. }) if self.0 == Wrong::Span && first + 31 == last => 27,
-            Ok(Frame::Data { life, window, number, row }) => {
-                fields[..5].copy_from_slice(&[1, life, window, number, 0].map(u64::from));
-                fields[5..21].copy_from_slice(&row.map(u64::from));
-                0
-            }
-            Ok(Frame::Reply { life, window, first, last }) => {
-                fields[..21].fill(0);
-                fields[..5].copy_from_slice(&[2, life, window, first, last].map(u64::from));
-                0
-            }
-            Err(refusal) => {
-                if self.0 == Wrong::Field {
-                    fields[0] = 0;
-                }
-                refusal as u8
-            }
-        }
-    }
-
-    fn write_data(&self, life: u32, window: u64, number: u64, row: &[u16], buffer: &mut [u8], count: &mut u64) -> u8 {
-        let Ok(row) = row.try_into() else {
-            *count = 0;
-            return 6;
-        };
-        let (life, window, number) = (self.byte(u64::from(life)), self.byte(window), self.byte(number));
-        self.write(Frame::Data { life, window, number, row }, buffer, count)
-    }
-
-    fn write_reply(&self, life: u32, window: u64, numbers: [u64; 2], buffer: &mut [u8], count: &mut u64) -> u8 {
-        let [first, last] = numbers.map(|number| self.byte(number));
-        let (life, window) = (self.byte(u64::from(life)), self.byte(window));
-        self.write(Frame::Reply { life, window, first, last }, buffer, count)
-    }
 }
 
 #[test]
 fn wrong_readers_and_writers_are_found() {
-    for wrong in [Wrong::Nothing, Wrong::Life, Wrong::Span, Wrong::Behind, Wrong::Field, Wrong::Cut] {
+    for wrong in [Wrong::Nothing, Wrong::Life, Wrong::Span, Wrong::Behind, Wrong::Number, Wrong::Cut, Wrong::Kind] {
         let found = readings(&StandIn(wrong)).and_then(|_| writings(&StandIn(wrong), 20_000));
         assert_eq!(found.is_err(), wrong != Wrong::Nothing, "{wrong:?}: {found:?}");
     }

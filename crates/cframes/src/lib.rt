@@ -1,0 +1,2 @@
+// Frames for programs in C.
+pub mod cframe;
