@@ -1,8 +1,8 @@
--- What is proved of images and of limits beyond the contracts.
+-- What is proved of links in C and of limits beyond the contracts.
 use Prim.Native.Nat.{ℕ, _+_, _≤_, _<_}
 use mathlib.Core.Path.{_≡_, refl, sym, _∙_, ap, ap₂}
 use mathlib.Core.Bool.{Bool, true, false, _&&_, _||_}
-use mathlib.Core.List.{List}
+use mathlib.Core.List.{List, [], _∷_, map}
 use native.Mathlib.Omega.{arith}
 use lib.Dec.{eqb, leb}
 use borrow.Author.Tests.{le-leb, lt-leb, leb-true, ne-eqb}
@@ -11,16 +11,27 @@ use Rattle.limits.specs.Questions.{pick, firstNo}
 use Rattle.limits.specs.Limits.{between, timesFit, waitFits, leastWait, windowFits, limitsQuestions}
 use Rattle.limits.proofs.Laws.Choice.{pick-yes, pick-no, split, test, three, and-right, and-no-right}
 use Rattle.events.specs.declared.Link.{Link}
-use Rattle.exports.specs.Image.{imageOf, linkOf, stored, LinkFits}
-use Rattle.exports.specs.Calls.{capped, asked}
-use Rattle.exports.proofs.Laws.Image.{load-stored, load-image}
+use Rattle.events.specs.declared.Progress.{Progress}
+use Rattle.agreement.specs.Calls.{Line, Made, following, Met, Chain, endOf}
+use Rattle.exports.specs.Links.{CLink, linkAt, stored}
+use Rattle.exports.specs.Calls.{capped, asked, Leaves, CCall, CChain}
+use Rattle.exports.proofs.Laws.Links as links
 
--- An image gives back its link, and so does a buffer that the link was stored in.
-pub image-loads : (k : Link) → LinkFits k → linkOf (imageOf k) ≡ k
-image-loads = load-image
+-- A link that is stored gives itself back.
+pub stored-loads : (k : Link) → linkAt (stored k) ≡ k
+stored-loads = links.stored-back
 
-pub stored-loads : (k : Link) (buffer : List ℕ) → LinkFits k → linkOf (stored k buffer) ≡ k
-stored-loads = load-stored
+-- What a call leaves is the link that it gave: the next call from C works on it.
+pub left-loads : (p : Progress) (before after : CLink) (counts : List ℕ) (r : ℕ) → Leaves p before after counts r → linkAt after ≡ p .link
+left-loads = links.left-link
+
+-- A list of calls from C is a list of runs and single events, each on the link that came out of the one before it: demand 3
+-- (`Agreement` in agreement/specs/Agreed) speaks of it.
+pub chain : (supply : List ℕ) (x : Line) (s : CLink) (cs : List CCall) → linkAt s ≡ x .link → CChain supply x s cs
+    → Chain supply x (map (λ (c : CCall). c .made) cs)
+chain supply x s [] e h = tt
+chain supply x s (c ∷ cs) e h =
+    (rw e at (h .0), chain supply (following x (c .made)) (c .left) cs (left-loads (c .made .result) s (c .left) (c .counts) (c .number) (h .1)) (h .2))
 
 capped-low : (x : ℕ) → x ≤ 65535 → capped x ≡ x
 unfolding capped
@@ -72,11 +83,18 @@ same-number w t t' x x' e f =
     test t' (λ y. ap₂ (numbered w) e (f y))
     (λ n. ap (λ (a : ℕ). pick w a 1) (pick-no t (pick x 0 3) 2 2 (e ∙ n) refl ∙ sym (pick-no t' (pick x' 0 3) 2 2 n refl)))
 
+window-capped : (w : ℕ) → windowFits (capped w) ≡ windowFits w
+unfolding windowFits
+window-capped w =
+    split w 65535 (λ h. ap (between 1 32) (capped-low w h))
+    (λ h. ap (between 1 32) (capped-high w h) ∙ sym (high-no 1 32 w (omega arith)))
+
 -- Limits of any numbers are answered as the rules answer them: the cap changes no answer.
 pub limits-capped : (w d r p t : ℕ) → firstNo (limitsQuestions (asked w d r p t)) ≡ firstNo (limitsQuestions (raw w d r p t))
 unfolding asked timesFit waitFits leastWait
 limits-capped w d r p t =
-    same-number (windowFits w) (times (capped d) (capped r) (capped p)) (times d r p) (wait (capped d + capped r + capped p) (capped t)) (wait (d + r + p) t)
+    ap (λ (b : Bool). numbered b (times (capped d) (capped r) (capped p)) (wait (capped d + capped r + capped p) (capped t))) (window-capped w)
+    ∙ same-number (windowFits w) (times (capped d) (capped r) (capped p)) (times d r p) (wait (capped d + capped r + capped p) (capped t)) (wait (d + r + p) t)
     (times-capped d r p)
     (λ e. let f = three (between 1 250 d) (between 1 250 r) (between 1 250 p) e in
     ap (λ s. wait s (capped t)) (ap₂ _+_ (ap₂ _+_ (small d (f .0)) (small r (f .1))) (small p (f .2))) ∙ wait-capped (d + r + p) t)

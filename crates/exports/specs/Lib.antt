@@ -1,2 +1,3 @@
-pub mod Image
+pub mod Links
 pub mod Calls
+pub mod Frames

@@ -1,2 +1,0 @@
-// Frames for programs in C.
-pub mod cframe;

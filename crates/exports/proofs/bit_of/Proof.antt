@@ -1,0 +1,13 @@
+use borrow.Author.Needs.{needs}
+use Rattle.exports.proofs.Laws.Links.{bit-on, bit-off}
+use Rattle.exports.proofs.bit_of.Statement.{statement}
+use Rattle.exports.proofs.bit_of.Tie as tie
+
+returns : tie.Need-returns
+returns c = bit-on _ (c .if1 .taken)
+
+returns-2 : tie.Need-returns-2
+returns-2 c = bit-off _ (c .if1 .left)
+
+pub bit-of-spec : {M : Type 1} → statement M
+bit-of-spec = tie.close (tie.spec returns returns-2)
