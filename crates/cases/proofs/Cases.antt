@@ -7,6 +7,7 @@ use Rattle.limits.specs.Cells.{legalCell}
 use Rattle.limits.specs.Ring.{distance, step}
 use Rattle.limits.specs.Tables.{remove, age}
 use Rattle.limits.specs.Events.{event}
+use Rattle.tables.specs.Words.{messages}
 use Rattle.air.specs.Data.{dataMessages}
 use Rattle.air.specs.Replies.{replyMessages}
 use Rattle.mat.specs.View.{matState}
@@ -28,7 +29,7 @@ _then_ : {A B : Type 0} → A → B → A × B
 a then b = (a, b)
 
 pub cases : Every Holds table
-unfolding pick all tab leading joined legalCell distance step remove age event leastWait defaultWait windowFits timesFit waitFits accepted at after unbounded.answers unbounded.afterAll built.answers built.afterAll built.next built.continued stepped linkState dataMessages replyMessages matState padState slotAt ready mat.sending mat.resending mat.marked mat.passing mat.ticked pad.arrival pad.replying pad.ticked
+unfolding pick all tab leading joined legalCell distance step remove age event leastWait defaultWait windowFits timesFit waitFits accepted at after unbounded.answers unbounded.afterAll built.answers built.afterAll built.next built.continued stepped linkState messages dataMessages replyMessages matState padState slotAt ready mat.sending mat.resending mat.marked mat.passing mat.ticked pad.arrival pad.replying pad.ticked
 cases =
     -- A
     (refl, refl)
