@@ -12,7 +12,7 @@ use Rattle.limits.specs.Limits.{between, timesFit, waitFits, leastWait, windowF
 use Rattle.limits.proofs.Laws.Choice.{pick-yes, pick-no, split, test, three, and-right, and-no-right}
 use Rattle.events.specs.declared.Link.{Link}
 use Rattle.events.specs.declared.Progress.{Progress}
-use Rattle.agreement.specs.Calls.{Line, Made, following, Met, Chain, endOf}
+use Rattle.agreement.specs.Calls.{Line, following, Chain}
 use Rattle.exports.specs.Links.{CLink, linkAt, stored}
 use Rattle.exports.specs.Calls.{capped, asked, Leaves, CCall, CChain}
 use Rattle.exports.proofs.Laws.Links as links

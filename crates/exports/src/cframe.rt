@@ -1,7 +1,6 @@
 // Frames for programs in C, as a head of five numbers (kind, life, w, number or first, last) and sixteen cells.
 ghost use mathlib.Core.Path.{_≡_};
 ghost use Prim.Native.Nat.{_<_};
-ghost use mathlib.Core.List.{[], _∷_};
 ghost use Rattle.exports.specs.Frames.{ReadFrame, WriteFrame};
 use frames::DataFrame;
 use frames::ReplyFrame;

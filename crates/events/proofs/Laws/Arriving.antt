@@ -9,7 +9,7 @@ use Rattle.limits.specs.Answer.{numberOf}
 use Rattle.limits.specs.Lists.{all}
 use Rattle.limits.specs.declared.answer.Answer.the-variants.{Done}
 use Rattle.limits.specs.Questions.{Question, ask, firstNo, Called}
-use Rattle.limits.specs.Tables.{Data, capacity, put}
+use Rattle.limits.specs.Tables.{Data, capacity}
 use Rattle.limits.specs.Events.{arriveData}
 use Rattle.limits.proofs.Laws.Choice.{pick-yes, pick-no}
 use Rattle.limits.proofs.Laws.Promise.{called-as, called-done, done-of, none-no}

@@ -11,7 +11,7 @@ use Rattle.limits.specs.Lists.{all}
 use Rattle.limits.specs.Answer.{numberOf}
 use Rattle.limits.specs.Questions.{firstNo}
 use Rattle.limits.specs.Limits.{between}
-use Rattle.limits.specs.Tables.{Message, Data, Reply, capacity, soundData, soundReply}
+use Rattle.limits.specs.Tables.{Message, capacity, soundData, soundReply}
 use Rattle.limits.proofs.Laws.Choice.{and-right}
 use Rattle.limits.proofs.Laws.Lists.{all-at}
 use Rattle.limits.proofs.Laws.Promise.{none-no, done-of}

@@ -5,7 +5,6 @@ use mathlib.Core.Bool.{Bool, true, false}
 use mathlib.Core.List.{List}
 use lib.Dec.{ltb}
 use lib.ListN.{length}
-use Rattle.limits.specs.declared.Limits.{Limits}
 use Rattle.limits.specs.declared.answer.Answer.the-variants.{Done, NoMessage, ReplyTableFull}
 use Rattle.limits.specs.Questions.{Called}
 use Rattle.limits.specs.Tables.{Reply, capacity, put, remove}
@@ -17,10 +16,10 @@ use Rattle.pad.specs.View.{padState, soundPad}
 use Rattle.air.specs.declared.datatable.DataTable.{DataTable}
 use Rattle.air.specs.declared.replytable.ReplyTable.{ReplyTable}
 use Rattle.air.specs.Rules.{roomQuestions}
-use Rattle.air.specs.Data.{dataMessages, soundDataTable, DataHolds}
-use Rattle.air.specs.Replies.{replyMessages, soundReplyTable, ReplyHolds}
+use Rattle.air.specs.Data.{dataMessages, DataHolds}
+use Rattle.air.specs.Replies.{replyMessages, ReplyHolds}
 use Rattle.air.proofs.Laws.Sound.{place-passed, place-refused}
-use Rattle.air.proofs.Laws.Typed.{length-data, length-replies, data-count, reply-count}
+use Rattle.air.proofs.Laws.Typed.{length-data, length-replies}
 use Rattle.events.specs.declared.Link.{Link}
 use Rattle.events.specs.declared.Progress.{Progress}
 use Rattle.events.specs.State.{noCounts, unmoved}

@@ -1,7 +1,7 @@
 -- Laws on frames as head and cells.
 use Prim.Native.Nat.{ℕ, _<_}
 use mathlib.Core.Path.{_≡_, refl, sym, _∙_, ap, ap₂, subst}
-use mathlib.Core.Bool.{true, false}
+use mathlib.Core.Bool.{false}
 use mathlib.Core.List.{List, [], _∷_}
 use native.Mathlib.Omega.{arith}
 use lib.Dec.{eqb}
@@ -20,7 +20,7 @@ use Rattle.frames.specs.Rules.{readQuestions, ReadCall, dataQuestions, replyQue
 use Rattle.frames.proofs.Laws.Values.{data-fits, reply-fits}
 use Rattle.frames.proofs.Laws.Reading.{data-kind, reply-kind, accepted-kind}
 use Rattle.frames.proofs.Theorems.{ReadAs, some-kind, read-back-data, read-back-reply}
-use Rattle.exports.specs.Frames.{Fields, fields, headOf, fieldsOf, ReadFrame, kindIn, dataIn, replyIn, writeQuestions, frameInto, WriteFrame}
+use Rattle.exports.specs.Frames.{fields, headOf, fieldsOf, ReadFrame, kindIn, dataIn, replyIn, writeQuestions, frameInto, WriteFrame}
 
 -- what the reader shows
 abbrev shownOf : FrameRead → Reading

@@ -1,6 +1,6 @@
 -- Laws on a link as C keeps it: marks as numbers, what is stored and what it gives back, and what a call in place leaves.
-use Prim.Native.Nat.{ℕ, _*_, _≤_, _<_}
-use mathlib.Core.Path.{_≡_, refl, sym, _∙_, ap, ap₂}
+use Prim.Native.Nat.{ℕ, _≤_, _<_}
+use mathlib.Core.Path.{_≡_, refl, sym, _∙_, ap}
 use mathlib.Core.Bool.{Bool, true, false, _&&_}
 use mathlib.Core.List.{List, [], _∷_, map}
 use native.Mathlib.Omega.{arith}
@@ -11,7 +11,6 @@ use Rattle.limits.specs.declared.Limits.{Limits}
 use Rattle.limits.specs.declared.answer.Answer.{Answer}
 use Rattle.limits.specs.Answer.{numberOf}
 use Rattle.limits.specs.Limits.{limitsQuestions, accepted, zeroLimits}
-use Rattle.limits.specs.Lists.{tab, all}
 use Rattle.limits.specs.Questions.{pick, Question, ask, firstNo, Answers, Called}
 use Rattle.limits.proofs.Laws.Choice.{both, test, pick-yes, pick-no, pick-under, pick-cases}
 use Rattle.limits.proofs.Laws.Good.{good}
@@ -21,17 +20,15 @@ use Rattle.rows.specs.Arrays.{changed, from-to}
 use Rattle.rows.proofs.Laws.Changed.{length-changed, changed-at, inside}
 use Rattle.air.proofs.Laws.Typed.{data-count, reply-count}
 use Rattle.events.specs.declared.Link.{Link}
-use Rattle.events.specs.declared.Counts.{Counts}
 use Rattle.events.specs.declared.Progress.{Progress}
 use Rattle.events.specs.declared.moves.Numbers.{Numbers}
 use Rattle.events.specs.declared.moves.Step.{Step}
 use Rattle.events.specs.View.{soundLink}
 use Rattle.events.specs.Lent.{Arrays, arrays, linkOf, progressOf}
 use Rattle.events.proofs.Laws.Parts.{parts, mat-numbers, pad-number}
-use Rattle.link.specs.declared.Opening.{Opening}
-use Rattle.link.specs.View.{freshLink, Opened}
+use Rattle.link.specs.View.{freshLink}
 use Rattle.exports.specs.Links.{CLink, clink, isOn, bit, limitsAt, numbersAt, headOf, linkAt, stored}
-use Rattle.exports.specs.Calls.{capped, asked, kindOf, countsList, OpenCall, Leaves, InPlace}
+use Rattle.exports.specs.Calls.{capped, asked, kindOf, countsList, OpenCall, Leaves}
 
 -- a loop that has written all of an array: it is the other one, read by g
 pub all-read : {A B : Type 0} (d : B) (e : A) (g : A → B) (ys zs : List B) (xs : List A) (i n : ℕ) → length zs ≡ n → length xs ≡ n → i ≡ n

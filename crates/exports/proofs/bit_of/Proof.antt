@@ -1,4 +1,3 @@
-use borrow.Author.Needs.{needs}
 use Rattle.exports.proofs.Laws.Links.{bit-on, bit-off}
 use Rattle.exports.proofs.bit_of.Statement.{statement}
 use Rattle.exports.proofs.bit_of.Tie as tie

@@ -1,9 +1,9 @@
 use borrow.Author.Needs.{needs}
 use native.Mathlib.Omega.{arith}
-use mathlib.Core.Path.{_≡_, refl, _∙_}
+use mathlib.Core.Path.{_≡_, refl}
 use Rattle.rows.specs.Arrays.{changed, from-to}
-use Rattle.rows.proofs.Laws.Changed.{range-start, range-turn, range-end}
-use Prim.Native.Nat.{_+_, _-_, _≤_}
+use Rattle.rows.proofs.Laws.Changed.{range-start, range-turn}
+use Prim.Native.Nat.{_-_, _≤_}
 use lib.ListN.{length, getD, length-set}
 use mathlib.Core.Bool.{false}
 use Rattle.exports.specs.Links.{bit}

@@ -1,5 +1,5 @@
 use Prim.Native.Nat.{_*_, _-_, _≤_}
-use mathlib.Core.Path.{_≡_, refl}
+use mathlib.Core.Path.{_≡_}
 use native.Mathlib.Omega.{arith}
 use Rattle.tables.proofs.Laws.Words.{ends-by, next-starts, Lowered, lowered-start, lowered-turn, lowered-end}
 use Rattle.tables.proofs.lower.Statement.{statement}

@@ -1,5 +1,5 @@
 use borrow.Author.Needs.{needs}
-use mathlib.Core.Path.{refl, sym, _∙_, ap}
+use mathlib.Core.Path.{refl, _∙_, ap}
 use lib.ListN.{getD}
 use borrow.Author.Tests.{eqb-false}
 use Rattle.limits.specs.Answer.{numberOf}

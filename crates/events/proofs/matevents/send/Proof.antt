@@ -1,6 +1,5 @@
 use borrow.Author.Needs.{needs}
 use mathlib.Core.Path.{refl, sym, _∙_, ap}
-use mathlib.Core.List.{[]}
 use borrow.Author.Tests.{ltb-true}
 use Rattle.limits.specs.Answer.{numberOf}
 use Rattle.limits.specs.Lists.{all}

@@ -1,4 +1,3 @@
-use borrow.Author.Needs.{needs}
 use Rattle.link.proofs.Laws.Calls.{fits-all, fits-short, fits-partial, fits-odd}
 use Rattle.link.proofs.lent.lent_fits.Statement.{statement}
 use Rattle.link.proofs.lent.lent_fits.Tie as tie
