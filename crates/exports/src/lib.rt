@@ -157,13 +157,7 @@ pub extern "C" fn matlink_lent_open(
         (clink (now (head .exit)) (now (matmark .exit)) (now (mattimer .exit)) (now (matcell .exit))
         (now (padmark .exit)) (now (padtimer .exit)) (now (padcell .exit)) (now (datas .exit)) (now (replies .exit))) r ⌝ }
 {
-    let a = limits::accept(asked_limits(
-        window,
-        datalife,
-        replylife,
-        replywait,
-        resendwait,
-    ));
+    let a = limits::accept(asked_limits(window, datalife, replylife, replywait, resendwait));
     let l = a.limits;
     let n = Numbers {
         oldest: 0,

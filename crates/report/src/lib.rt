@@ -8,8 +8,8 @@ ghost use Rattle.limits.specs.Answer.{numberOf};
 ghost use Rattle.lines.specs.Input.{readable};
 ghost use Rattle.lines.specs.Text.{eventLines, countsLine, refusedLine, Wrote};
 ghost use Rattle.report.specs.Report.{outputLength, noAnswers, textOf, Room, Reports};
-use limits::answer::Answer;
 use events::Counts;
+use limits::answer::Answer;
 
 pub struct Reported {
     pub answer: Answer,

@@ -1,9 +1,9 @@
 // A link opened and run from fresh on lent slices, promised against the unbounded ends.
 ghost use mathlib.Core.Path.{_≡_};
 ghost use Rattle.ride.specs.Ride.{Rode};
+use events::Counts;
 use limits::Limits;
 use limits::answer::Answer;
-use events::Counts;
 
 pub struct Outcome {
     pub answer: Answer,
