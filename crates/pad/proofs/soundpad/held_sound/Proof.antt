@@ -8,8 +8,8 @@ use mathlib.Core.Path.{_≡_, sym, _∙_, ap}
 use Prim.Native.Nat.{ℕ, _-_, _≤_}
 use native.Mathlib.Omega.{arith}
 use borrow.Author.Needs.{needs}
-use Rattle.pad.proofs.soundpad.cells_sound.Statement.{statement}
-use Rattle.pad.proofs.soundpad.cells_sound.Tie as tie
+use Rattle.pad.proofs.soundpad.held_sound.Statement.{statement}
+use Rattle.pad.proofs.soundpad.held_sound.Tie as tie
 
 abbrev Inv-loop : tie.InvT-loop
 Inv-loop held cells w good₀ i₀ good i = (i ≤ w) × ((wanted : ℕ) (timers : List ℕ) → good ≡ all soundSlot (tab i (slotAt (padOf wanted held timers cells))))
@@ -42,8 +42,8 @@ loop-again c = let l = c .before .before .before .before .loop in
 returns : tie.Need-returns Inv-loop μ-loop
 returns c = λ wanted timers. flag-end _ _ _ _ _ (c .before .loop .inv .1 wanted timers) (omega arith)
 
-pub cells-sound-spec : {M : Type 1} → statement M
-cells-sound-spec =
+pub held-sound-spec : {M : Type 1} → statement M
+held-sound-spec =
     tie.close
     (tie.spec
     Inv-loop
