@@ -49,13 +49,25 @@ fn numbers_sound(w: usize, oldest: usize, next: usize) -> bool
     rows::both(oldest < 2 * w, next < 2 * w) && ring::gap(2 * w, oldest, next) <= w
 }
 
-fn marks_sound(w: usize, oldest: usize, next: usize, marks: &[bool; 32]) -> bool
+fn marked_sound(w: usize, oldest: usize, next: usize, marks: &[bool; 32]) -> bool
     requires { ⌜ (1 ≤ w) × (w ≤ 32) × (oldest < 2 * w) × (next < 2 * w) × (distance (2 * w) oldest next ≤ w) ⌝ }
     ensures { λ r. ⌜ ((timers cells : List ℕ) → r ≡ soundMarks w (matOf oldest next (now (marks .entry)) timers cells)) ⌝ }
 {
     let out = ring::gap(2 * w, oldest, next);
     let at = ring::slot(w, oldest);
     rows::both(!marks[at], unmarked(marks, w, ring::slot(w, next), w - out))
+}
+
+// In most calls no mark is set at all; then no mark needs to be looked at place by place.
+fn marks_sound(w: usize, oldest: usize, next: usize, marks: &[bool; 32]) -> bool
+    requires { ⌜ (1 ≤ w) × (w ≤ 32) × (oldest < 2 * w) × (next < 2 * w) × (distance (2 * w) oldest next ≤ w) ⌝ }
+    ensures { λ r. ⌜ ((timers cells : List ℕ) → r ≡ soundMarks w (matOf oldest next (now (marks .entry)) timers cells)) ⌝ }
+{
+    if rows::none_set(marks, 0, 32) {
+        true
+    } else {
+        marked_sound(w, oldest, next, marks)
+    }
 }
 
 fn rows_sound(l: Limits, oldest: usize, next: usize, timers: &[u16; 32], cells: &[u16; 512]) -> bool

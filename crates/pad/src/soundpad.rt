@@ -31,7 +31,7 @@ fn row_sound(held: bool, cells: &[u16; 512], at: usize) -> bool
 }
 
 // Whether the rows held at the first w places have legal cells.
-fn cells_sound(held: &[bool; 32], cells: &[u16; 512], w: usize) -> bool
+fn held_sound(held: &[bool; 32], cells: &[u16; 512], w: usize) -> bool
     requires { ⌜ w ≤ 32 ⌝ }
     ensures { λ r. ⌜ ((wanted : ℕ) (timers : List ℕ)
         → r ≡ all soundSlot (tab w (slotAt (padOf wanted (now (held .entry)) timers (now (cells .entry)))))) ⌝ }
@@ -43,6 +43,19 @@ fn cells_sound(held: &[bool; 32], cells: &[u16; 512], w: usize) -> bool
         i += 1;
     }
     good
+}
+
+// In most calls no row is held at all; then no row needs to be looked at.
+fn cells_sound(held: &[bool; 32], cells: &[u16; 512], w: usize) -> bool
+    requires { ⌜ w ≤ 32 ⌝ }
+    ensures { λ r. ⌜ ((wanted : ℕ) (timers : List ℕ)
+        → r ≡ all soundSlot (tab w (slotAt (padOf wanted (now (held .entry)) timers (now (cells .entry)))))) ⌝ }
+{
+    if rows::none_set(held, 0, 32) {
+        true
+    } else {
+        held_sound(held, cells, w)
+    }
 }
 
 pub fn pad_sound(

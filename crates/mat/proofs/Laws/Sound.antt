@@ -3,7 +3,7 @@ use Prim.Native.Nat.{ℕ, _+_, _-_, _*_, _%_, _≤_, _<_}
 use mathlib.Core.Path.{_≡_, _∙_, ap}
 use mathlib.Core.Bool.{Bool, true, false, not, _&&_}
 use native.Mathlib.Omega.{arith}
-use native.Mathlib.Nat.{mod-add-mod}
+use native.Mathlib.Nat.{mod-add-mod, mod-lt}
 use lib.Dec.{leb, ltb, eqb}
 use lib.ListN.{getD, length, set}
 use lib.Seq.{getD-set-same, getD-set-other}
@@ -111,3 +111,11 @@ module _ (w : ℕ) (m : Mat) where
   legal-cells from count e q =
       ap (λ n. all legalRow (tab n (λ i. rowAt (m .cells) ((from + i) % w)))) q
       ∙ ap (all legalRow) (tab-ext (outstandingOf w m) _ _ (λ i j. ap (rowAt (m .cells)) (ap (λ a. (a + i) % w) e ∙ mod-add-mod (m .oldest) w i)))
+
+  -- where no mark is set, the marks are sound
+  pub unmarked-sound : 1 ≤ w → w ≤ 32 → ((i : ℕ) → i < 32 → getD (m .marks) i false ≡ false) → soundMarks w m ≡ true
+  unmarked-sound low high none =
+      both _ _ (ap not (off 0)) (all-tab not _ _ (λ i h. ap not (off (outstandingOf w m + i))))
+    where
+      off : (k : ℕ) → markAt w m k ≡ false
+      off k = none _ (let b = mod-lt (m .oldest + k) {m = w} low in omega arith)

@@ -1,13 +1,16 @@
 -- Laws on what stands at a place of the pad.
-use Prim.Native.Nat.{ℕ}
+use Prim.Native.Nat.{ℕ, _≤_, _<_}
 use mathlib.Core.Path.{_≡_, refl, sym, _∙_, ap, ap₂}
 use mathlib.Core.Bool.{true, false, _&&_}
 use mathlib.Core.List.{List}
+use native.Mathlib.Omega.{arith}
 use lib.Dec.{ltb}
 use lib.ListN.{length, getD}
 use Rattle.limits.specs.Cells.{rowAt, legalRow}
+use Rattle.limits.specs.Lists.{tab, all}
 use Rattle.limits.specs.Questions.{pick}
 use Rattle.limits.proofs.Laws.Choice.{test, pick-yes, pick-no, clash, and-no-left, and-goes-on}
+use Rattle.limits.proofs.Laws.Lists.{all-tab}
 use Rattle.pad.specs.declared.Pad.{Pad}
 use Rattle.pad.specs.Window.{Slot, empty, full, ready, contents}
 use Rattle.pad.specs.Rules.{slotFalls}
@@ -54,6 +57,10 @@ slot-sound p at =
     slot-cases p at
     (λ e s. ap soundSlot s ∙ sym (pick-yes _ _ _ _ e refl))
     (λ e s. ap soundSlot s ∙ sym (pick-no _ _ _ _ e refl))
+
+-- where no row is held, every row held is sound
+pub unheld-sound : (p : Pad) (w : ℕ) → w ≤ 32 → ((i : ℕ) → i < 32 → getD (p .held) i false ≡ false) → all soundSlot (tab w (slotAt p)) ≡ true
+unheld-sound p w high none = all-tab soundSlot w (slotAt p) (λ i h. ap soundSlot (slot-empty p i (none i (omega arith))))
 
 -- a ready row is held
 pub ready-contents : (p : Pad) (at : ℕ) → ready (slotAt p at) ≡ true → contents (slotAt p at) ≡ rowAt (p .cells) at

@@ -1,19 +1,19 @@
 -- Laws on arrays whose places stand for numbers modulo w.
 use Prim.Native.Nat.{ℕ, _+_, _-_, _%_, _≤_, _<_}
 use mathlib.Core.Path.{_≡_, refl, sym, _∙_, ap, ap₂}
-use mathlib.Core.Bool.{Bool, false, _&&_}
+use mathlib.Core.Bool.{Bool, true, false, not, _&&_}
 use mathlib.Core.List.{List, _++_}
 use native.Mathlib.Omega.{arith}
 use native.Mathlib.Nat.{mod-lt, mod-eq-of-lt, mod-self, mod-add-mod}
 use lib.Dec.{eqb, ltb}
-use borrow.Author.Tests.{lt-ltb, le-ltb, eqb-true, eqb-false}
+use borrow.Author.Tests.{lt-ltb, le-ltb, eqb-true, eqb-false, not-true}
 use lib.ListN.{length, getD, set}
 use lib.Seq.{getD-set-same, getD-set-other}
 use Rattle.limits.specs.Lists.{tab, all}
 use Rattle.limits.specs.Questions.{pick}
 use Rattle.limits.specs.Ring.{distance}
 use Rattle.limits.proofs.Laws.Choice.{split, test, pick-yes, pick-no, and-no-left, and-no-right, both}
-use Rattle.limits.proofs.Laws.Lists.{split-tab, tab-ext, all-append}
+use Rattle.limits.proofs.Laws.Lists.{split-tab, tab-ext, all-append, all-tab-at}
 use Rattle.limits.proofs.Laws.Ring.{mod-once, distance-on, distance-round, distance-step, distance-is, place-distance, place-inj}
 use Rattle.rows.specs.Arrays.{from-to, spanSet}
 use Rattle.rows.proofs.Laws.Changed.{length-changed, changed-at, changed-other, changed-none, changed-more, inside, below, above}
@@ -128,3 +128,10 @@ module _ {A : Type 0} (w from count over : ℕ) (h : from < w) (k : count ≤ w)
       (s ∙ ap (λ n. all p (tab n (λ i. f (0 + i)))) {x = over - 0} {y = over} (omega arith) ∙ ap (all p) (tab-ext over _ f (λ i j. ap f {x = 0 + i} {y = i} (omega arith))))
       ∙ sym (all-append p (tab (count - over) (λ i. f (from + i))) (tab over f))
       ∙ ap (all p) (sym round-tab)
+
+-- where none of the first n marks is set, each is off
+pub none-at : (xs : List Bool) (n : ℕ) (flag : Bool) → flag ≡ all not (tab (n - 0) (λ i. getD xs (0 + i) false)) → flag ≡ true
+    → (i : ℕ) → i < n → getD xs i false ≡ false
+none-at xs n flag e q i h =
+    ap (λ j. getD xs j false) {x = i} {y = 0 + i} (omega arith)
+    ∙ not-true _ (all-tab-at not (n - 0) (λ j. getD xs (0 + j) false) (sym e ∙ q) i (omega arith))
