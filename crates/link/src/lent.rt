@@ -18,7 +18,7 @@ use mat::soundmat;
 use pad::soundpad;
 
 // Question 4.
-pub fn sound(
+pub fn lent_sound(
     l: Limits,
     n: Numbers,
     marks: &[bool; 32],
@@ -43,7 +43,7 @@ pub fn sound(
 
 // The call for one event: 4, 6, then the event's questions. It is a run of one event: the event is then called from one place, and
 // the compiler puts it into the loop.
-pub fn step(
+pub fn lent_step(
     l: Limits,
     n: Numbers,
     marks: &mut [bool; 32],
@@ -67,7 +67,7 @@ pub fn step(
         (now (held .exit)) (now (padtimers .exit)) (now (padcells .exit))
         (now (datas .exit)) (now (replies .exit))) r) ⌝ }
 {
-    if sound(
+    if lent_sound(
         l,
         n,
         marks,
@@ -82,7 +82,7 @@ pub fn step(
         if supply.len() % 16 == 0 {
             let bytes = [kind, argument];
             let mut answers = [0; 1];
-            let s = lentrun::run(
+            let s = lentrun::run_events(
                 l,
                 n,
                 marks,
@@ -131,7 +131,7 @@ fn lent_fits(events: usize, supply: usize, answers: usize) -> Answer
 }
 
 // The events in order: 4, 5, 6, 7. One answer byte for each event.
-pub fn run(
+pub fn lent_run(
     l: Limits,
     n: Numbers,
     marks: &mut [bool; 32],
@@ -155,7 +155,7 @@ pub fn run(
         (now (held .exit)) (now (padtimers .exit)) (now (padcells .exit))
         (now (datas .exit)) (now (replies .exit))) r) ⌝ }
 {
-    if sound(
+    if lent_sound(
         l,
         n,
         marks,
@@ -171,7 +171,7 @@ pub fn run(
         let Answer::Done = answer else {
             return moves::stays(n, answer);
         };
-        let s = lentrun::run(
+        let s = lentrun::run_events(
             l,
             n,
             marks,

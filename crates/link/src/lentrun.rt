@@ -17,7 +17,7 @@ use limits::answer::Answer;
 
 // Every event in order, each on the unsent rest of the supply and the unwritten rest of the record. Gives the last answer. Where
 // every event was refused, the link is as it was.
-pub fn run(
+pub fn run_events(
     l: Limits,
     n: Numbers,
     marks: &mut [bool; 32],

@@ -102,7 +102,7 @@ pub fn sound(k: Link) -> bool
     let padcells = pad::cells_of(p);
     let datas = datatable::words_of(k.datas);
     let replies = replytable::words_of(k.replies);
-    lent::sound(
+    lent::lent_sound(
         l,
         n,
         &marks,
@@ -133,7 +133,7 @@ pub fn step(k: Link, kind: u8, argument: u8, supply: &[u16], record: &mut [u16])
     let mut padcells = pad::cells_of(p);
     let mut datas = datatable::words_of(k.datas);
     let mut replies = replytable::words_of(k.replies);
-    let s = lent::step(
+    let s = lent::lent_step(
         l,
         n,
         &mut marks,
@@ -193,7 +193,7 @@ pub fn run(
     let mut padcells = pad::cells_of(p);
     let mut datas = datatable::words_of(k.datas);
     let mut replies = replytable::words_of(k.replies);
-    let s = lent::run(
+    let s = lent::lent_run(
         l,
         n,
         &mut marks,

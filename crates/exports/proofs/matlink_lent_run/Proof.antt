@@ -22,8 +22,8 @@ marks-of-requires-2 c κs = search needs
 numbers-of-requires : tie.Need-numbers-of-requires
 numbers-of-requires c κs = search needs
 
-run-requires : tie.Need-run-requires
-run-requires c κs = search needs
+lent-run-requires : tie.Need-lent-run-requires
+lent-run-requires c κs = search needs
 
 counts-of-requires : tie.Need-counts-of-requires
 counts-of-requires c κs = search needs
@@ -41,7 +41,7 @@ same-length-2 : tie.Need-same-length-2
 same-length-2 c = search needs
 
 returns : tie.Need-returns
-returns c = let a = c .before .before .before .before .before .before .before .before .before .before .before .before .before .before .before .before .before .before .before .before .before .before .before .before .before .before .before .before .before .before .args in let u = c .before .before .before .before .before .before .before .before .run in let s = (clink (a .head .now) (a .matmark .now) (a .mattimer .now) (a .matcell .now) (a .padmark .now) (a .padtimer .now) (a .padcell .now) (a .datas .now) (a .replies .now)) in let after = (arrays (u .last .1 .1 .0) (u .last .1 .1 .1 .0) (u .last .1 .1 .1 .1 .0) (u .last .1 .1 .1 .1 .1 .0) (u .last .1 .1 .1 .1 .1 .1 .0) (u .last .1 .1 .1 .1 .1 .1 .1 .0) (u .last .1 .1 .1 .1 .1 .1 .1 .1 .0) (u .last .1 .1 .1 .1 .1 .1 .1 .1 .1 .0)) in
+returns c = let a = c .before .before .before .before .before .before .before .before .before .before .before .before .before .before .before .before .before .before .before .before .before .before .before .before .before .before .before .before .before .before .args in let u = c .before .before .before .before .before .before .before .before .lent-run in let s = (clink (a .head .now) (a .matmark .now) (a .mattimer .now) (a .matcell .now) (a .padmark .now) (a .padtimer .now) (a .padcell .now) (a .datas .now) (a .replies .now)) in let after = (arrays (u .last .1 .1 .0) (u .last .1 .1 .1 .0) (u .last .1 .1 .1 .1 .0) (u .last .1 .1 .1 .1 .1 .0) (u .last .1 .1 .1 .1 .1 .1 .0) (u .last .1 .1 .1 .1 .1 .1 .1 .0) (u .last .1 .1 .1 .1 .1 .1 .1 .1 .0) (u .last .1 .1 .1 .1 .1 .1 .1 .1 .1 .0)) in
     let promise = kept-promise (λ k p. Ran k (a .events .now) (a .supply .now) (a .«record» .now) (u .last .1 .1 .1 .1 .1 .1 .1 .1 .1 .1 .1 .1 .0) (a .answers .now) (u .last .1 .1 .1 .1 .1 .1 .1 .1 .1 .1 .1 .1 .1 .0) p) s (c .before .before .before .before .before .before .before .before .before .before .before .before .before .before .before .before .before .before .before .before .before .before .before .before .limits-of .result) (c .before .before .before .before .before .before .before .before .before .before .before .before .before .before .before .before .before .before .before .numbers-of .result) (c .before .before .before .before .before .before .before .before .before .before .before .before .before .before .before .before .before .before .before .before .before .before .marks-of .result) (c .before .before .before .before .before .before .before .before .before .before .before .before .before .before .before .before .before .before .before .before .marks-of2 .result) after (u .result) (c .before .before .before .before .before .before .before .before .before .before .before .before .before .before .before .before .before .before .before .before .before .before .before .before .limits-of .ensures) (c .before .before .before .before .before .before .before .before .before .before .before .before .before .before .before .before .before .before .before .numbers-of .ensures) (c .before .before .before .before .before .before .before .before .before .before .before .before .before .before .before .before .before .before .before .before .before .before .marks-of .ensures) (c .before .before .before .before .before .before .before .before .before .before .before .before .before .before .before .before .before .before .before .before .marks-of2 .ensures) (u .ensures) in
     record {
       progress = progressOf (limitsAt (a .head .now)) after (u .result);
@@ -50,7 +50,7 @@ returns c = let a = c .before .before .before .before .before .before .before .b
     }
 
 head-of-requires : tie.Need-head-of-requires
-head-of-requires c κs = let u = c .before .before .before .before .before .before .before .before .before .run in let after = (arrays (u .last .1 .1 .0) (u .last .1 .1 .1 .0) (u .last .1 .1 .1 .1 .0) (u .last .1 .1 .1 .1 .1 .0) (u .last .1 .1 .1 .1 .1 .1 .0) (u .last .1 .1 .1 .1 .1 .1 .1 .0) (u .last .1 .1 .1 .1 .1 .1 .1 .1 .0) (u .last .1 .1 .1 .1 .1 .1 .1 .1 .1 .0)) in small (c .before .before .before .before .before .before .before .before .before .before .before .before .before .before .before .before .before .before .before .before .before .before .before .before .before .limits-of .result) (u .result .numbers) after (done-sound _ _ (progressOf (c .before .before .before .before .before .before .before .before .before .before .before .before .before .before .before .before .before .before .before .before .before .before .before .before .before .limits-of .result) after (u .result)) _ _ _ (u .ensures) (ap numberOf (c .before .enum-told .given .1)))
+head-of-requires c κs = let u = c .before .before .before .before .before .before .before .before .before .lent-run in let after = (arrays (u .last .1 .1 .0) (u .last .1 .1 .1 .0) (u .last .1 .1 .1 .1 .0) (u .last .1 .1 .1 .1 .1 .0) (u .last .1 .1 .1 .1 .1 .1 .0) (u .last .1 .1 .1 .1 .1 .1 .1 .0) (u .last .1 .1 .1 .1 .1 .1 .1 .1 .0) (u .last .1 .1 .1 .1 .1 .1 .1 .1 .1 .0)) in small (c .before .before .before .before .before .before .before .before .before .before .before .before .before .before .before .before .before .before .before .before .before .before .before .before .before .limits-of .result) (u .result .numbers) after (done-sound _ _ (progressOf (c .before .before .before .before .before .before .before .before .before .before .before .before .before .before .before .before .before .before .before .before .before .before .before .before .before .limits-of .result) after (u .result)) _ _ _ (u .ensures) (ap numberOf (c .before .enum-told .given .1)))
 
 bits-of-requires : tie.Need-bits-of-requires
 bits-of-requires c κs = search needs
@@ -65,7 +65,7 @@ same-length-4 : tie.Need-same-length-4
 same-length-4 c = search needs
 
 returns-2 : tie.Need-returns-2
-returns-2 c = let a = c .before .before .before .before .before .before .before .before .before .before .before .before .before .before .before .before .before .before .before .before .before .before .before .before .before .before .before .before .before .before .before .before .before .before .args in let u = c .before .before .before .before .before .before .before .before .before .before .before .before .run in let s = (clink (a .head .now) (a .matmark .now) (a .mattimer .now) (a .matcell .now) (a .padmark .now) (a .padtimer .now) (a .padcell .now) (a .datas .now) (a .replies .now)) in let after = (arrays (u .last .1 .1 .0) (u .last .1 .1 .1 .0) (u .last .1 .1 .1 .1 .0) (u .last .1 .1 .1 .1 .1 .0) (u .last .1 .1 .1 .1 .1 .1 .0) (u .last .1 .1 .1 .1 .1 .1 .1 .0) (u .last .1 .1 .1 .1 .1 .1 .1 .1 .0) (u .last .1 .1 .1 .1 .1 .1 .1 .1 .1 .0)) in
+returns-2 c = let a = c .before .before .before .before .before .before .before .before .before .before .before .before .before .before .before .before .before .before .before .before .before .before .before .before .before .before .before .before .before .before .before .before .before .before .args in let u = c .before .before .before .before .before .before .before .before .before .before .before .before .lent-run in let s = (clink (a .head .now) (a .matmark .now) (a .mattimer .now) (a .matcell .now) (a .padmark .now) (a .padtimer .now) (a .padcell .now) (a .datas .now) (a .replies .now)) in let after = (arrays (u .last .1 .1 .0) (u .last .1 .1 .1 .0) (u .last .1 .1 .1 .1 .0) (u .last .1 .1 .1 .1 .1 .0) (u .last .1 .1 .1 .1 .1 .1 .0) (u .last .1 .1 .1 .1 .1 .1 .1 .0) (u .last .1 .1 .1 .1 .1 .1 .1 .1 .0) (u .last .1 .1 .1 .1 .1 .1 .1 .1 .1 .0)) in
     record {
       progress = progressOf (limitsAt (a .head .now)) after (u .result);
       promise = kept-promise (λ k p. Ran k (a .events .now) (a .supply .now) (a .«record» .now) (u .last .1 .1 .1 .1 .1 .1 .1 .1 .1 .1 .1 .1 .0) (a .answers .now) (u .last .1 .1 .1 .1 .1 .1 .1 .1 .1 .1 .1 .1 .1 .0) p) s (c .before .before .before .before .before .before .before .before .before .before .before .before .before .before .before .before .before .before .before .before .before .before .before .before .before .before .before .before .limits-of .result) (c .before .before .before .before .before .before .before .before .before .before .before .before .before .before .before .before .before .before .before .before .before .before .before .numbers-of .result) (c .before .before .before .before .before .before .before .before .before .before .before .before .before .before .before .before .before .before .before .before .before .before .before .before .before .before .marks-of .result) (c .before .before .before .before .before .before .before .before .before .before .before .before .before .before .before .before .before .before .before .before .before .before .before .before .marks-of2 .result) after (u .result) (c .before .before .before .before .before .before .before .before .before .before .before .before .before .before .before .before .before .before .before .before .before .before .before .before .before .before .before .before .limits-of .ensures) (c .before .before .before .before .before .before .before .before .before .before .before .before .before .before .before .before .before .before .before .before .before .before .before .numbers-of .ensures) (c .before .before .before .before .before .before .before .before .before .before .before .before .before .before .before .before .before .before .before .before .before .before .before .before .before .before .marks-of .ensures) (c .before .before .before .before .before .before .before .before .before .before .before .before .before .before .before .before .before .before .before .before .before .before .before .before .marks-of2 .ensures) (u .ensures);
@@ -80,7 +80,7 @@ matlink-lent-run-spec =
     marks-of-requires
     marks-of-requires-2
     numbers-of-requires
-    run-requires
+    lent-run-requires
     counts-of-requires
     enum-told
     number-requires

@@ -30,8 +30,8 @@ kind-byte-requires c κs = search needs
 low-byte-requires : tie.Need-low-byte-requires
 low-byte-requires c κs = search needs
 
-step-requires : tie.Need-step-requires
-step-requires c κs = search needs
+lent-step-requires : tie.Need-lent-step-requires
+lent-step-requires c κs = search needs
 
 counts-of-requires : tie.Need-counts-of-requires
 counts-of-requires c κs = search needs
@@ -46,7 +46,7 @@ same-length : tie.Need-same-length
 same-length c = search needs
 
 returns : tie.Need-returns
-returns c = let a = c .before .before .before .before .before .before .before .before .before .before .before .before .before .before .before .before .before .before .before .before .before .before .before .before .before .before .before .args in let u = c .before .before .before .before .before .before .step in let s = (clink (a .head .now) (a .matmark .now) (a .mattimer .now) (a .matcell .now) (a .padmark .now) (a .padtimer .now) (a .padcell .now) (a .datas .now) (a .replies .now)) in let after = (arrays (u .last .1 .1 .0) (u .last .1 .1 .1 .0) (u .last .1 .1 .1 .1 .0) (u .last .1 .1 .1 .1 .1 .0) (u .last .1 .1 .1 .1 .1 .1 .0) (u .last .1 .1 .1 .1 .1 .1 .1 .0) (u .last .1 .1 .1 .1 .1 .1 .1 .1 .0) (u .last .1 .1 .1 .1 .1 .1 .1 .1 .1 .0)) in
+returns c = let a = c .before .before .before .before .before .before .before .before .before .before .before .before .before .before .before .before .before .before .before .before .before .before .before .before .before .before .before .args in let u = c .before .before .before .before .before .before .lent-step in let s = (clink (a .head .now) (a .matmark .now) (a .mattimer .now) (a .matcell .now) (a .padmark .now) (a .padtimer .now) (a .padcell .now) (a .datas .now) (a .replies .now)) in let after = (arrays (u .last .1 .1 .0) (u .last .1 .1 .1 .0) (u .last .1 .1 .1 .1 .0) (u .last .1 .1 .1 .1 .1 .0) (u .last .1 .1 .1 .1 .1 .1 .0) (u .last .1 .1 .1 .1 .1 .1 .1 .0) (u .last .1 .1 .1 .1 .1 .1 .1 .1 .0) (u .last .1 .1 .1 .1 .1 .1 .1 .1 .1 .0)) in
     let promise = kept-promise (λ k p. Stepped k (kindOf (a .kind) (a .argument)) (a .argument % 256) (a .supply .now) (a .«record» .now) (u .last .1 .1 .1 .1 .1 .1 .1 .1 .1 .1 .1 .1 .1 .0) p) s (c .before .before .before .before .before .before .before .before .before .before .before .before .before .before .before .before .before .before .before .before .before .before .before .limits-of .result) (c .before .before .before .before .before .before .before .before .before .before .before .before .before .before .before .before .before .before .numbers-of .result) (c .before .before .before .before .before .before .before .before .before .before .before .before .before .before .before .before .before .before .before .before .before .marks-of .result) (c .before .before .before .before .before .before .before .before .before .before .before .before .before .before .before .before .before .before .before .marks-of2 .result) after (u .result) (c .before .before .before .before .before .before .before .before .before .before .before .before .before .before .before .before .before .before .before .before .before .before .before .limits-of .ensures) (c .before .before .before .before .before .before .before .before .before .before .before .before .before .before .before .before .before .before .numbers-of .ensures) (c .before .before .before .before .before .before .before .before .before .before .before .before .before .before .before .before .before .before .before .before .before .marks-of .ensures) (c .before .before .before .before .before .before .before .before .before .before .before .before .before .before .before .before .before .before .before .marks-of2 .ensures) (rw (c .before .before .before .before .before .before .before .before .before .kind-byte .ensures, c .before .before .before .before .before .before .before .before .low-byte .ensures) at (u .ensures)) in
     record {
       progress = progressOf (limitsAt (a .head .now)) after (u .result);
@@ -55,7 +55,7 @@ returns c = let a = c .before .before .before .before .before .before .before .b
     }
 
 head-of-requires : tie.Need-head-of-requires
-head-of-requires c κs = let u = c .before .before .before .before .before .before .before .step in let after = (arrays (u .last .1 .1 .0) (u .last .1 .1 .1 .0) (u .last .1 .1 .1 .1 .0) (u .last .1 .1 .1 .1 .1 .0) (u .last .1 .1 .1 .1 .1 .1 .0) (u .last .1 .1 .1 .1 .1 .1 .1 .0) (u .last .1 .1 .1 .1 .1 .1 .1 .1 .0) (u .last .1 .1 .1 .1 .1 .1 .1 .1 .1 .0)) in small (c .before .before .before .before .before .before .before .before .before .before .before .before .before .before .before .before .before .before .before .before .before .before .before .before .limits-of .result) (u .result .numbers) after (done-sound _ _ (progressOf (c .before .before .before .before .before .before .before .before .before .before .before .before .before .before .before .before .before .before .before .before .before .before .before .before .limits-of .result) after (u .result)) _ _ _ (u .ensures) (ap numberOf (c .before .enum-told .given .1)))
+head-of-requires c κs = let u = c .before .before .before .before .before .before .before .lent-step in let after = (arrays (u .last .1 .1 .0) (u .last .1 .1 .1 .0) (u .last .1 .1 .1 .1 .0) (u .last .1 .1 .1 .1 .1 .0) (u .last .1 .1 .1 .1 .1 .1 .0) (u .last .1 .1 .1 .1 .1 .1 .1 .0) (u .last .1 .1 .1 .1 .1 .1 .1 .1 .0) (u .last .1 .1 .1 .1 .1 .1 .1 .1 .1 .0)) in small (c .before .before .before .before .before .before .before .before .before .before .before .before .before .before .before .before .before .before .before .before .before .before .before .before .limits-of .result) (u .result .numbers) after (done-sound _ _ (progressOf (c .before .before .before .before .before .before .before .before .before .before .before .before .before .before .before .before .before .before .before .before .before .before .before .before .limits-of .result) after (u .result)) _ _ _ (u .ensures) (ap numberOf (c .before .enum-told .given .1)))
 
 bits-of-requires : tie.Need-bits-of-requires
 bits-of-requires c κs = search needs
@@ -67,7 +67,7 @@ same-length-2 : tie.Need-same-length-2
 same-length-2 c = search needs
 
 returns-2 : tie.Need-returns-2
-returns-2 c = let a = c .before .before .before .before .before .before .before .before .before .before .before .before .before .before .before .before .before .before .before .before .before .before .before .before .before .before .before .before .before .before .before .args in let u = c .before .before .before .before .before .before .before .before .before .before .step in let s = (clink (a .head .now) (a .matmark .now) (a .mattimer .now) (a .matcell .now) (a .padmark .now) (a .padtimer .now) (a .padcell .now) (a .datas .now) (a .replies .now)) in let after = (arrays (u .last .1 .1 .0) (u .last .1 .1 .1 .0) (u .last .1 .1 .1 .1 .0) (u .last .1 .1 .1 .1 .1 .0) (u .last .1 .1 .1 .1 .1 .1 .0) (u .last .1 .1 .1 .1 .1 .1 .1 .0) (u .last .1 .1 .1 .1 .1 .1 .1 .1 .0) (u .last .1 .1 .1 .1 .1 .1 .1 .1 .1 .0)) in
+returns-2 c = let a = c .before .before .before .before .before .before .before .before .before .before .before .before .before .before .before .before .before .before .before .before .before .before .before .before .before .before .before .before .before .before .before .args in let u = c .before .before .before .before .before .before .before .before .before .before .lent-step in let s = (clink (a .head .now) (a .matmark .now) (a .mattimer .now) (a .matcell .now) (a .padmark .now) (a .padtimer .now) (a .padcell .now) (a .datas .now) (a .replies .now)) in let after = (arrays (u .last .1 .1 .0) (u .last .1 .1 .1 .0) (u .last .1 .1 .1 .1 .0) (u .last .1 .1 .1 .1 .1 .0) (u .last .1 .1 .1 .1 .1 .1 .0) (u .last .1 .1 .1 .1 .1 .1 .1 .0) (u .last .1 .1 .1 .1 .1 .1 .1 .1 .0) (u .last .1 .1 .1 .1 .1 .1 .1 .1 .1 .0)) in
     record {
       progress = progressOf (limitsAt (a .head .now)) after (u .result);
       promise = kept-promise (λ k p. Stepped k (kindOf (a .kind) (a .argument)) (a .argument % 256) (a .supply .now) (a .«record» .now) (u .last .1 .1 .1 .1 .1 .1 .1 .1 .1 .1 .1 .1 .1 .0) p) s (c .before .before .before .before .before .before .before .before .before .before .before .before .before .before .before .before .before .before .before .before .before .before .before .before .before .before .before .limits-of .result) (c .before .before .before .before .before .before .before .before .before .before .before .before .before .before .before .before .before .before .before .before .before .before .numbers-of .result) (c .before .before .before .before .before .before .before .before .before .before .before .before .before .before .before .before .before .before .before .before .before .before .before .before .before .marks-of .result) (c .before .before .before .before .before .before .before .before .before .before .before .before .before .before .before .before .before .before .before .before .before .before .before .marks-of2 .result) after (u .result) (c .before .before .before .before .before .before .before .before .before .before .before .before .before .before .before .before .before .before .before .before .before .before .before .before .before .before .before .limits-of .ensures) (c .before .before .before .before .before .before .before .before .before .before .before .before .before .before .before .before .before .before .before .before .before .before .numbers-of .ensures) (c .before .before .before .before .before .before .before .before .before .before .before .before .before .before .before .before .before .before .before .before .before .before .before .before .before .marks-of .ensures) (c .before .before .before .before .before .before .before .before .before .before .before .before .before .before .before .before .before .before .before .before .before .before .before .marks-of2 .ensures) (rw (c .before .before .before .before .before .before .before .before .before .before .before .before .before .kind-byte .ensures, c .before .before .before .before .before .before .before .before .before .before .before .before .low-byte .ensures) at (u .ensures));
@@ -84,7 +84,7 @@ matlink-lent-step-spec =
     numbers-of-requires
     kind-byte-requires
     low-byte-requires
-    step-requires
+    lent-step-requires
     counts-of-requires
     enum-told
     number-requires

@@ -31,8 +31,8 @@ words-of-requires c κs = search needs
 words-of-requires-2 : tie.Need-words-of-requires-2
 words-of-requires-2 c κs = search needs
 
-run-requires : tie.Need-run-requires
-run-requires c κs = search needs
+lent-run-requires : tie.Need-lent-run-requires
+lent-run-requires c κs = search needs
 
 joined-requires : tie.Need-joined-requires
 joined-requires c κs = search needs
@@ -44,7 +44,7 @@ same-length-2 : tie.Need-same-length-2
 same-length-2 c = search needs
 
 returns : tie.Need-returns
-returns c = let s = c .before .before .before .before .before .before .before .before .before .before .before .before .before .before .before .before .before .before .before .before .before .before .before .before .before .before .before .before .before .before .before .before .before .before in let u = c .before .before .before .before .before .before .before .run in together (λ k r. Ran k (s .args .events .now) (s .args .supply .now) (s .args .«record» .now) (u .last .1 .1 .1 .1 .1 .1 .1 .1 .1 .1 .1 .1 .0) (s .args .answers .now) (u .last .1 .1 .1 .1 .1 .1 .1 .1 .1 .1 .1 .1 .1 .0) r) (s .args .k) _ _ _ _ _ (apart (c .before .before .before .before .before .before .before .before .before .before .before .before .before .before .before .before .before .before .before .before .before .before .before .before .before .before .before .before .before .before .before .before .before .before .args .k) _ _ _ _ _ _ _ _ _ (c .before .before .before .before .before .before .before .before .before .before .before .before .before .before .before .before .before .before .before .before .before .before .before .before .before .before .before .before .numbers-of .ensures) (c .before .before .before .before .before .before .before .before .before .before .before .before .before .before .before .before .before .before .before .before .before .before .before .before .before .marks-of .ensures) (c .before .before .before .before .before .before .before .before .before .before .before .before .before .before .before .before .before .before .before .before .before .before .before .before .timers-of .ensures) (c .before .before .before .before .before .before .before .before .before .before .before .before .before .before .before .before .before .before .before .before .before .before .before .cells-of .ensures) (c .before .before .before .before .before .before .before .before .before .before .before .before .before .before .before .before .before .before .before .before .before .before .held-of .ensures) (c .before .before .before .before .before .before .before .before .before .before .before .before .before .before .before .before .before .before .before .before .before .timers-of2 .ensures) (c .before .before .before .before .before .before .before .before .before .before .before .before .before .before .before .before .before .before .before .before .cells-of2 .ensures) (c .before .before .before .before .before .before .before .before .before .before .before .before .before .before .before .before .before .before .before .words-of .ensures) (c .before .before .before .before .before .before .before .before .before .before .before .before .before .before .before .before .before .before .words-of2 .ensures)) (c .joined .ensures) (u .ensures)
+returns c = let s = c .before .before .before .before .before .before .before .before .before .before .before .before .before .before .before .before .before .before .before .before .before .before .before .before .before .before .before .before .before .before .before .before .before .before in let u = c .before .before .before .before .before .before .before .lent-run in together (λ k r. Ran k (s .args .events .now) (s .args .supply .now) (s .args .«record» .now) (u .last .1 .1 .1 .1 .1 .1 .1 .1 .1 .1 .1 .1 .0) (s .args .answers .now) (u .last .1 .1 .1 .1 .1 .1 .1 .1 .1 .1 .1 .1 .1 .0) r) (s .args .k) _ _ _ _ _ (apart (c .before .before .before .before .before .before .before .before .before .before .before .before .before .before .before .before .before .before .before .before .before .before .before .before .before .before .before .before .before .before .before .before .before .before .args .k) _ _ _ _ _ _ _ _ _ (c .before .before .before .before .before .before .before .before .before .before .before .before .before .before .before .before .before .before .before .before .before .before .before .before .before .before .before .before .numbers-of .ensures) (c .before .before .before .before .before .before .before .before .before .before .before .before .before .before .before .before .before .before .before .before .before .before .before .before .before .marks-of .ensures) (c .before .before .before .before .before .before .before .before .before .before .before .before .before .before .before .before .before .before .before .before .before .before .before .before .timers-of .ensures) (c .before .before .before .before .before .before .before .before .before .before .before .before .before .before .before .before .before .before .before .before .before .before .before .cells-of .ensures) (c .before .before .before .before .before .before .before .before .before .before .before .before .before .before .before .before .before .before .before .before .before .before .held-of .ensures) (c .before .before .before .before .before .before .before .before .before .before .before .before .before .before .before .before .before .before .before .before .before .timers-of2 .ensures) (c .before .before .before .before .before .before .before .before .before .before .before .before .before .before .before .before .before .before .before .before .cells-of2 .ensures) (c .before .before .before .before .before .before .before .before .before .before .before .before .before .before .before .before .before .before .before .words-of .ensures) (c .before .before .before .before .before .before .before .before .before .before .before .before .before .before .before .before .before .before .words-of2 .ensures)) (c .joined .ensures) (u .ensures)
 
 pub run-spec : {M : Type 1} → statement M
 run-spec =
@@ -59,7 +59,7 @@ run-spec =
     cells-of-requires-2
     words-of-requires
     words-of-requires-2
-    run-requires
+    lent-run-requires
     joined-requires
     same-length
     same-length-2

@@ -32,11 +32,11 @@ words-of-requires c κs = search needs
 words-of-requires-2 : tie.Need-words-of-requires-2
 words-of-requires-2 c κs = search needs
 
-sound-requires : tie.Need-sound-requires
-sound-requires c κs = search needs
+lent-sound-requires : tie.Need-lent-sound-requires
+lent-sound-requires c κs = search needs
 
 returns : tie.Need-returns
-returns c = c .sound .ensures ∙ ap soundLink (apart (c .before .before .before .before .before .before .before .before .before .before .before .before .before .before .before .before .before .before .before .before .before .args .k) _ _ _ _ _ _ _ _ _ (c .before .before .before .before .before .before .before .before .before .before .before .before .before .before .before .before .before .before .before .numbers-of .ensures) (c .before .before .before .before .before .before .before .before .before .before .before .before .before .before .before .before .marks-of .ensures) (c .before .before .before .before .before .before .before .before .before .before .before .before .before .before .before .timers-of .ensures) (c .before .before .before .before .before .before .before .before .before .before .before .before .before .before .cells-of .ensures) (c .before .before .before .before .before .before .before .before .before .before .before .before .before .held-of .ensures) (c .before .before .before .before .before .before .before .before .before .before .before .before .timers-of2 .ensures) (c .before .before .before .before .before .before .before .before .before .before .before .cells-of2 .ensures) (c .before .before .before .before .before .before .before .before .before .before .words-of .ensures) (c .before .before .before .before .before .before .before .before .before .words-of2 .ensures))
+returns c = c .lent-sound .ensures ∙ ap soundLink (apart (c .before .before .before .before .before .before .before .before .before .before .before .before .before .before .before .before .before .before .before .before .before .args .k) _ _ _ _ _ _ _ _ _ (c .before .before .before .before .before .before .before .before .before .before .before .before .before .before .before .before .before .before .before .numbers-of .ensures) (c .before .before .before .before .before .before .before .before .before .before .before .before .before .before .before .before .marks-of .ensures) (c .before .before .before .before .before .before .before .before .before .before .before .before .before .before .before .timers-of .ensures) (c .before .before .before .before .before .before .before .before .before .before .before .before .before .before .cells-of .ensures) (c .before .before .before .before .before .before .before .before .before .before .before .before .before .held-of .ensures) (c .before .before .before .before .before .before .before .before .before .before .before .before .timers-of2 .ensures) (c .before .before .before .before .before .before .before .before .before .before .before .cells-of2 .ensures) (c .before .before .before .before .before .before .before .before .before .before .words-of .ensures) (c .before .before .before .before .before .before .before .before .before .words-of2 .ensures))
 
 pub sound-spec : {M : Type 1} → statement M
 sound-spec =
@@ -51,5 +51,5 @@ sound-spec =
     cells-of-requires-2
     words-of-requires
     words-of-requires-2
-    sound-requires
+    lent-sound-requires
     returns)

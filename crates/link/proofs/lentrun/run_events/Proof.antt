@@ -6,8 +6,8 @@ use borrow.Author.Needs.{needs}
 use Rattle.limits.proofs.Laws.Promise.{not-done}
 use Rattle.events.specs.Lent.{arrays, linkOf}
 use Rattle.link.proofs.Laws.Running.{Going, Last, room, starts-with, arrays-kept, turn-done, turn-refused, counts-fit, finishes, all-refused, last-set, last-at}
-use Rattle.link.proofs.lentrun.run.Statement.{statement}
-use Rattle.link.proofs.lentrun.run.Tie as tie
+use Rattle.link.proofs.lentrun.run_events.Statement.{statement}
+use Rattle.link.proofs.lentrun.run_events.Tie as tie
 
 abbrev Inv-loop : tie.InvT-loop
 Inv-loop l marks₀ mattimers₀ matcells₀ held₀ padtimers₀ padcells₀ datas₀ replies₀ events supply record₀ answers₀ count at₀ last₀ counts₀ i₀ marks mattimers matcells held padtimers padcells datas replies «record» answers at last counts i =
@@ -123,8 +123,8 @@ returns : tie.Need-returns Inv-loop μ-loop
 returns c = let l = c .before in let b = c .before .before .before .before .before .before .before in let g = l .loop .inv .1 in let e : l .loop .i ≡ length (b .args .events .now) / 2 = omega (arith, l .loop .inv .0, c .loop-test .left) in
     (g .sound, finishes _ _ _ _ _ _ _ _ _ (l .loop .i) (b .pre .1) e (omega (arith, b .pre .2, g .same-answers)) g, last-at (l .loop .last) (l .loop .answers) (l .loop .i) _ e (l .loop .inv .2), all-refused _ _ _ _ _ _ _ _ _ (l .loop .i) _ e g)
 
-pub run-spec : {M : Type 1} → statement M
-run-spec =
+pub run-events-spec : {M : Type 1} → statement M
+run-events-spec =
     tie.close
     (tie.spec
     Inv-loop

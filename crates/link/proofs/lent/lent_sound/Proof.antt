@@ -4,8 +4,8 @@ use Rattle.limits.proofs.Laws.Choice.{and-goes-on, and-stops}
 use Rattle.air.specs.Kinds.{lent}
 use Rattle.air.proofs.Laws.Typed.{data-sound, reply-sound}
 use Rattle.events.specs.View.{soundLink}
-use Rattle.link.proofs.lent.sound.Statement.{statement}
-use Rattle.link.proofs.lent.sound.Tie as tie
+use Rattle.link.proofs.lent.lent_sound.Statement.{statement}
+use Rattle.link.proofs.lent.lent_sound.Tie as tie
 
 sound-limits-requires : tie.Need-sound-limits-requires
 sound-limits-requires c κs = search needs
@@ -42,8 +42,8 @@ returns-5 : tie.Need-returns-5
 unfolding soundLink
 returns-5 c = c .before .sound-limits .ensures ∙ and-stops _ _ (sym (c .before .sound-limits .ensures) ∙ c .if1 .left)
 
-pub sound-spec : {M : Type 1} → statement M
-sound-spec =
+pub lent-sound-spec : {M : Type 1} → statement M
+lent-sound-spec =
     tie.close
     (tie.spec
     sound-limits-requires
