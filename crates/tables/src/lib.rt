@@ -5,7 +5,7 @@ ghost use mathlib.Core.List.{map};
 ghost use Prim.Native.Nat.{_+_, _-_, _*_, _≤_, _<_};
 ghost use lib.Dec.{ltb};
 ghost use lib.ListN.{length};
-ghost use Rattle.limits.specs.Lists.{tab, leading};
+ghost use Rattle.limits.specs.Lists.{tab, all, leading};
 ghost use Rattle.limits.specs.Tables.{put, remove, age, aged};
 ghost use Rattle.rows.specs.Arrays.{closed};
 ghost use Rattle.tables.specs.Words.{messageOf, messageAt, messages};
@@ -26,18 +26,23 @@ pub fn remove(words: &mut [u16], width: usize, count: usize, p: usize)
     rows::close(words, width * p, width, width * count);
 }
 
-// Every life falls by d and stops at 0.
-fn lower(words: &mut [u16], width: usize, count: usize, d: u16)
+// Every life falls by d and stops at 0. Gives whether every message has life left.
+fn lower(words: &mut [u16], width: usize, count: usize, d: u16) -> bool
     requires { ⌜ (1 ≤ width) × (width * count ≤ length (now words)) ⌝ }
-    ensures { λ _. ⌜ messages width count (now (words .exit)) ≡ map (aged d) (messages width count (now (words .entry))) ⌝ }
+    ensures { λ r. ⌜ (messages width count (now (words .exit)) ≡ map (aged d) (messages width count (now (words .entry))))
+        × (r ≡ all (λ m. ltb 0 (m .life)) (messages width count (now (words .exit)))) ⌝ }
 {
+    let mut alive = true;
     let mut at = 0;
     let mut i = 0;
     while i < count {
-        words[at] = rows::less(words[at], d);
+        let left = rows::less(words[at], d);
+        words[at] = left;
+        alive = rows::both(alive, 0 < left);
         at += width;
         i += 1;
     }
+    alive
 }
 
 // How many messages from `from` on have life left, up to the first that has none.
@@ -58,7 +63,7 @@ fn living(words: &[u16], width: usize, from: usize, count: usize) -> usize
     i - from
 }
 
-// The run of n messages from `from` on moves down to place `to` as a whole. Most ticks drop nothing, and then no word moves.
+// The run of n messages from `from` on moves down to place `to` as a whole. The run before the first message that goes stays.
 fn slide(words: &mut [u16], width: usize, from: usize, to: usize, n: usize)
     requires { ⌜ (1 ≤ width) × (to ≤ from) × (width * (from + n) ≤ length (now words)) ⌝ }
     ensures { λ _. ⌜ now (words .exit) ≡ closed (width * to) (width * (from - to)) (width * (from + n)) (now (words .entry)) ⌝ }
@@ -84,11 +89,15 @@ fn gather(words: &mut [u16], width: usize, count: usize) -> usize
     kept
 }
 
-// The messages that outlive d move together, each with what is left of its life. Gives their number.
+// The messages that outlive d move together, each with what is left of its life. Gives their number. Most ticks drop nothing, and
+// then no message is looked at again.
 pub fn age(words: &mut [u16], width: usize, count: usize, d: u16) -> usize
     requires { ⌜ (1 ≤ width) × (width * count ≤ length (now words)) ⌝ }
     ensures { λ r. ⌜ messages width r (now (words .exit)) ≡ age d (messages width count (now (words .entry))) ⌝ }
 {
-    lower(words, width, count, d);
-    gather(words, width, count)
+    if lower(words, width, count, d) {
+        count
+    } else {
+        gather(words, width, count)
+    }
 }

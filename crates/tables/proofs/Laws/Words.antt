@@ -1,7 +1,7 @@
 -- Laws on tables of words.
 use Prim.Native.Nat.{ℕ, _+_, _-_, _*_, _≤_, _<_, min}
 use mathlib.Core.Path.{_≡_, refl, sym, _∙_, ap, ap₂}
-use mathlib.Core.Bool.{Bool}
+use mathlib.Core.Bool.{Bool, _&&_}
 use mathlib.Core.List.{List, map}
 use native.Mathlib.Nat.{mul-add, mul-le-mul-left, mul-le-mul-right}
 use native.Mathlib.Omega.{arith}
@@ -10,9 +10,9 @@ use borrow.Author.Tests.{lt-ltb, le-ltb, ltb-true, ltb-false}
 use lib.ListN.{length, getD, set, length-set}
 use lib.Seq.{getD-set-same, getD-set-other}
 use Rattle.limits.specs.Tables.{Message, put, remove, aged, age}
-use Rattle.limits.specs.Lists.{tab, leading}
+use Rattle.limits.specs.Lists.{tab, all, leading}
 use Rattle.limits.proofs.Laws.Choice.{split}
-use Rattle.limits.proofs.Laws.Lists.{length-tab, tab-ext, map-tab, leading-is, leading-most, leading-at, leading-end}
+use Rattle.limits.proofs.Laws.Lists.{length-tab, tab-ext, map-tab, flag-turn, flag-end, leading-is, leading-most, leading-at, leading-end}
 use Rattle.limits.proofs.Laws.Tables.{put-tab, remove-tab, age-drops, age-run}
 use Rattle.rows.specs.Arrays.{pasted, closed}
 use Rattle.rows.proofs.Laws.Changed.{pasted-low, pasted-at, closed-low, closed-high, closed-behind, closed-none, length-closed}
@@ -67,6 +67,13 @@ module _ (w : ℕ) (some : 1 ≤ w) (count : ℕ) (words : List ℕ) where
       closed-high (w * p) w (w * count) words (w * i + k) fits (omega arith) (omega arith)
       ∙ ap (λ j. getD words j 0) {x = w * i + k + w} {y = w * (i + 1) + k} (omega arith)))))
 
+pub life-at : (w : ℕ) (words : List ℕ) (p : ℕ) → messageAt w words p .life ≡ getD words (w * p) 0
+unfolding entry
+life-at w words p = ap (λ j. getD words j 0) {x = w * p + 0} {y = w * p} (omega arith)
+
+abbrev pub alive : {B : Type 0} → Message B → Bool
+alive m = ltb 0 (m .life)
+
 -- the loop that lowers the lives, at message i
 pub record Lowered (w d i : ℕ) (old now : List ℕ) : Type 0 where
   pub size : length now ≡ length old
@@ -103,12 +110,19 @@ module _ (w d : ℕ) (old now : List ℕ) where
   lowered-end i count q inv =
       tab-ext count (messageAt w now) (λ p. aged d (messageAt w old p)) (λ p h. inv .done p (omega arith)) ∙ sym (map-tab (aged d) count (messageAt w old))
 
-pub life-at : (w : ℕ) (words : List ℕ) (p : ℕ) → messageAt w words p .life ≡ getD words (w * p) 0
-unfolding entry
-life-at w words p = ap (λ j. getD words j 0) {x = w * p + 0} {y = w * p} (omega arith)
+  -- and whether those below i have life left
+  pub alive-turn : (i at v : ℕ) (flag next : Bool) → Lowered w d i old now → at ≡ w * i → v ≡ getD now at 0 - d
+      → flag ≡ all alive (tab i (λ p. aged d (messageAt w old p))) → next ≡ (flag && ltb 0 v) → next ≡ all alive (tab (i + 1) (λ p. aged d (messageAt w old p)))
+  alive-turn i at v flag next inv here e g q =
+      flag-turn alive (λ p. aged d (messageAt w old p)) i flag next g
+      (q ∙ ap (λ x. flag && ltb 0 x) (e ∙ ap (_- d) (inv .rest at (omega arith) ∙ ap (λ j. getD old j 0) here ∙ sym (life-at w old i))))
 
-abbrev pub alive : {B : Type 0} → Message B → Bool
-alive m = ltb 0 (m .life)
+  pub alive-end : (i count : ℕ) (flag : Bool) → i ≡ count → Lowered w d i old now → flag ≡ all alive (tab i (λ p. aged d (messageAt w old p)))
+      → flag ≡ all alive (messages w count now)
+  unfolding messages
+  alive-end i count flag q inv e =
+      flag-end alive (λ p. aged d (messageAt w old p)) count i flag e q
+      ∙ ap (all alive) (sym (tab-ext count (messageAt w now) (λ p. aged d (messageAt w old p)) (λ p h. inv .done p (omega arith))))
 
 -- the messages from `from` on have life left, up to message i
 pub record Living (w from i : ℕ) (words : List ℕ) : Type 0 where

@@ -1,7 +1,7 @@
-use mathlib.Core.Path.{_∙_, ap}
+use mathlib.Core.Path.{_∙_, ap, sym}
 use borrow.Author.Needs.{needs}
 use Rattle.limits.specs.Tables.{age}
-use Rattle.limits.proofs.Laws.Tables.{age-lowered}
+use Rattle.limits.proofs.Laws.Tables.{age-lowered, age-living}
 use Rattle.tables.proofs.age.Statement.{statement}
 use Rattle.tables.proofs.age.Tie as tie
 
@@ -15,7 +15,13 @@ same-length : tie.Need-same-length
 same-length c = search needs
 
 returns : tie.Need-returns
-returns c = c .before .before .gather .ensures ∙ ap (age 0) (c .before .before .before .before .before .before .lower .ensures) ∙ age-lowered _ _
+returns c = let low = c .before .before .before .lower .ensures in sym (age-living _ (sym (low .1) ∙ c .if1 .taken)) ∙ ap (age 0) (low .0) ∙ age-lowered _ _
+
+same-length-2 : tie.Need-same-length-2
+same-length-2 c = search needs
+
+returns-2 : tie.Need-returns-2
+returns-2 c = c .before .before .gather .ensures ∙ ap (age 0) (c .before .before .before .before .before .before .before .lower .ensures .0) ∙ age-lowered _ _
 
 pub age-spec : {M : Type 1} → statement M
-age-spec = tie.close (tie.spec lower-requires gather-requires same-length returns)
+age-spec = tie.close (tie.spec lower-requires gather-requires same-length returns same-length-2 returns-2)
