@@ -1,10 +1,14 @@
 -- The two kinds of message in the air, what the words of each say, and what a call on a lent table of either kind promises.
-use Prim.Native.Nat.{ℕ}
-use mathlib.Core.Bool.{Bool}
+use Prim.Native.Nat.{ℕ, _*_}
+use mathlib.Core.Bool.{Bool, true, _&&_}
 use mathlib.Core.List.{List}
+use lib.Dec.{ltb}
 use lib.ListN.{getD, drop}
 use Rattle.limits.specs.declared.Limits.{Limits}
 use Rattle.limits.specs.declared.answer.Answer.{Answer}
+use Rattle.limits.specs.Cells.{legalCell}
+use Rattle.limits.specs.Limits.{between}
+use Rattle.limits.specs.Lists.{all}
 use Rattle.limits.specs.Questions.{Question, Called}
 use Rattle.limits.specs.Tables.{Message, Data, Reply, soundData, soundReply}
 use Rattle.tables.specs.Words.{messages}
@@ -41,6 +45,15 @@ soundWords l OfReplies words = soundReply l (replyOf words)
 
 abbrev pub soundCarrying : Limits → Kind → Message (List ℕ) → Bool
 soundCarrying l kind m = soundMessage (soundWords l kind) (lifeOf l kind) m
+
+-- and its two parts: all of it but the cells, and the words in which the cells stand
+abbrev pub soundHead : Limits → Kind → Message (List ℕ) → Bool
+soundHead l OfData m = between 1 (l .datalife) (m .life) && ltb (dataOf (m .body) .number) (2 * l .window)
+soundHead l OfReplies m = soundCarrying l OfReplies m
+
+abbrev pub soundCells : Kind → List ℕ → Bool
+soundCells OfData words = all legalCell words
+soundCells OfReplies words = true
 
 -- a table as it is lent: how many messages it has, and its words
 pub record Lent : Type 0 where

@@ -4,14 +4,14 @@ ghost use mathlib.Core.Bool.{true, _&&_};
 ghost use mathlib.Core.List.{_∷_};
 ghost use Prim.Native.Nat.{_+_, _*_, _≤_};
 ghost use lib.Dec.{ltb};
-ghost use lib.ListN.{length, getD};
+ghost use lib.ListN.{length, getD, take, drop};
 ghost use Rattle.limits.specs.Answer.{numberOf};
 ghost use Rattle.limits.specs.Questions.{ask, firstNo, timeQuestions};
 ghost use Rattle.limits.specs.Limits.{soundLimits};
 ghost use Rattle.limits.specs.Tables.{put, remove, age, capacity};
 ghost use Rattle.tables.specs.Words.{entry, messageOf};
 ghost use Rattle.air.specs.Rules.{roomQuestions, placeQuestions};
-ghost use Rattle.air.specs.Kinds.{widthOf, fullOf, soundCarrying, lent, carried, soundLent, LentCall};
+ghost use Rattle.air.specs.Kinds.{widthOf, fullOf, soundCarrying, soundHead, soundCells, lent, carried, soundLent, LentCall};
 use limits::Limits;
 use limits::answer::Answer;
 
@@ -50,13 +50,14 @@ fn wide(x: u16) -> usize
     x as usize
 }
 
-fn data_sound(l: Limits, words: &[u16], at: usize) -> bool
+// Question 4 of a data message but for its cells.
+fn data_head_sound(l: Limits, words: &[u16], at: usize) -> bool
     requires { ⌜ (soundLimits l ≡ true) × (at + 18 ≤ length (now words)) ⌝ }
-    ensures { λ r. ⌜ r ≡ soundCarrying l Kind.OfData (entry 18 (λ k. getD (now (words .entry)) (at + k) 0)) ⌝ }
+    ensures { λ r. ⌜ r ≡ soundHead l Kind.OfData (entry 18 (λ k. getD (now (words .entry)) (at + k) 0)) ⌝ }
 {
     let number = wide(words[at + 1]);
-    let row = rows::read(words, at + 2);
-    limits::within(1, l.datalife, words[at]) && rows::messages::data_sound(l, number, row)
+    let lives = limits::within(1, l.datalife, words[at]);
+    rows::both(lives, number < 2 * l.window)
 }
 
 fn reply_sound(l: Limits, words: &[u16], at: usize) -> bool
@@ -68,18 +69,38 @@ fn reply_sound(l: Limits, words: &[u16], at: usize) -> bool
     limits::within(1, l.replylife, words[at]) && rows::messages::reply_sound(l, first, last)
 }
 
+// Question 4 of the message whose words stand from `at` on, but for its cells.
+fn head_sound(l: Limits, kind: Kind, words: &[u16], at: usize) -> bool
+    requires { ⌜ (soundLimits l ≡ true) × (at + widthOf kind ≤ length (now words)) ⌝ }
+    ensures { λ r. ⌜ r ≡ soundHead l kind (entry (widthOf kind) (λ k. getD (now (words .entry)) (at + k) 0)) ⌝ }
+{
+    match kind {
+        Kind::OfData => data_head_sound(l, words, at),
+        Kind::OfReplies => reply_sound(l, words, at),
+    }
+}
+
+// Whether the cells are legal of n messages whose words stand from `at` on. A life and a number that pass their own test are legal
+// cells too, so that the words are tested in one row.
+fn cells_sound(kind: Kind, words: &[u16], at: usize, n: usize) -> bool
+    requires { ⌜ at + widthOf kind * n ≤ length (now words) ⌝ }
+    ensures { λ r. ⌜ r ≡ soundCells kind (take (widthOf kind * n) (drop at (now (words .entry)))) ⌝ }
+{
+    match kind {
+        Kind::OfData => rows::legal_cells(words, at, at + 18 * n),
+        Kind::OfReplies => true,
+    }
+}
+
 // Question 4 of the message whose words stand from `at` on.
 fn message_sound(l: Limits, kind: Kind, words: &[u16], at: usize) -> bool
     requires { ⌜ (soundLimits l ≡ true) × (at + widthOf kind ≤ length (now words)) ⌝ }
     ensures { λ r. ⌜ r ≡ soundCarrying l kind (entry (widthOf kind) (λ k. getD (now (words .entry)) (at + k) 0)) ⌝ }
 {
-    match kind {
-        Kind::OfData => data_sound(l, words, at),
-        Kind::OfReplies => reply_sound(l, words, at),
-    }
+    head_sound(l, kind, words, at) && cells_sound(kind, words, at, 1)
 }
 
-// Question 4 of a table. Looks at every message, so that no test hangs on the one before it.
+// Question 4 of a table. Looks at every message, so that no test hangs on the one before it, and then at all the cells at once.
 pub fn table_sound(l: Limits, kind: Kind, count: usize, words: &[u16]) -> bool
     requires { ⌜ (soundLimits l ≡ true) × (widthOf kind * 32 ≤ length (now words)) ⌝ }
     ensures { λ r. ⌜ r ≡ soundLent l kind (lent count (now (words .entry))) ⌝ }
@@ -92,11 +113,11 @@ pub fn table_sound(l: Limits, kind: Kind, count: usize, words: &[u16]) -> bool
     let mut at = 0;
     let mut i = 0;
     while i < count {
-        good = rows::both(good, message_sound(l, kind, words, at));
+        good = rows::both(good, head_sound(l, kind, words, at));
         at += w;
         i += 1;
     }
-    good
+    rows::both(good, cells_sound(kind, words, 0, count))
 }
 
 // Whether a message more finds a place.

@@ -58,6 +58,11 @@ pub and-no-right : (a b : Bool) → b ≡ false → (a && b) ≡ false
 and-no-right true b e = e
 and-no-right false b e = refl
 
+pub and-swap : (a b x y : Bool) → ((a && b) && (x && y)) ≡ ((a && x) && (b && y))
+and-swap true true x y = refl
+and-swap true false x y = sym (and-no-right x false refl)
+and-swap false b x y = refl
+
 -- what `a && b` returns, by the value of `a`
 pub and-goes-on : (a b : Bool) → a ≡ true → b ≡ (a && b)
 and-goes-on a b e = rw e

@@ -11,7 +11,7 @@ use lib.ListN.{length, take, drop, getD, set, length-append, length-take, length
 use lib.Seq.{getD-at, getD-append-add, ext-getD, getD-drop, getD-take, getD-set-same, getD-set-other}
 use Rattle.limits.specs.Lists.{tab, all, leading, joined}
 use Rattle.limits.specs.Questions.{pick}
-use Rattle.limits.proofs.Laws.Choice.{and-left, and-right, both, clash, split, test, pick-yes, pick-no, pick-cases}
+use Rattle.limits.proofs.Laws.Choice.{and-left, and-right, and-swap, both, clash, split, test, pick-yes, pick-no, pick-cases}
 
 module _ {A : Type 0} where
   pub length-tab : (n : ℕ) (f : ℕ → A) → length (tab n f) ≡ n
@@ -141,6 +141,18 @@ module _ {A : Type 0} (p : A → Bool) (f : ℕ → A) where
 
   pub flag-end : (n i : ℕ) (flag : Bool) → flag ≡ all p (tab i f) → i ≡ n → flag ≡ all p (tab n f)
   flag-end n i flag e q = rw q at e
+
+-- two tests of every element, gathered apart
+module _ {A B C : Type 0} (p : A → Bool) (q : B → Bool) (r : C → Bool) (f : ℕ → A) (g : ℕ → B) (h : ℕ → C) where
+  pub all-both : (n : ℕ) → ((i : ℕ) → i < n → (p (f i) && q (g i)) ≡ r (h i)) → (all p (tab n f) && all q (tab n g)) ≡ all r (tab n h)
+  unfolding tab all
+  all-both zero e = refl
+  all-both (suc n) e =
+      rw add-one at
+      (ap₂ _&&_ (all-next p n f) (all-next q n g)
+      ∙ and-swap (all p (tab n f)) (p (f n)) (all q (tab n g)) (q (g n))
+      ∙ ap₂ _&&_ (all-both n (λ i k. e i (omega arith))) (e n (omega arith))
+      ∙ sym (all-next r n h))
 
 -- a list by its own elements
 pub tab-self : {A : Type 0} (xs : List A) (n : ℕ) (d : A) → length xs ≡ n → tab n (λ i. getD xs i d) ≡ xs

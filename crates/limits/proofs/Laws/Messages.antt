@@ -3,12 +3,17 @@ use Prim.Native.Nat.{ℕ, _*_, _≤_, _<_}
 use mathlib.Core.Path.{_≡_}
 use mathlib.Core.Bool.{true, _&&_}
 use mathlib.Core.List.{List}
-use Rattle.limits.specs.Cells.{legalRow}
+use Rattle.limits.specs.Cells.{legalCell, legalRow}
 use lib.Dec.{leb, ltb}
 use borrow.Author.Tests.{ltb-true, leb-true, lt-ltb, le-leb}
 use Rattle.limits.specs.declared.Limits.{Limits}
 use Rattle.limits.specs.Tables.{Data, Reply, span, soundReply, soundData}
 use Rattle.limits.proofs.Laws.Choice.{and-left, and-right, both}
+
+-- a small number is a legal cell
+pub small-legal : (c : ℕ) → c ≤ 4095 → legalCell c ≡ true
+unfolding legalCell
+small-legal c h = le-leb c 4095 h
 
 pub record ReplyFacts (l : Limits) (x : Reply) : Type 0 where
   pub first : x .first < 2 * l .window

@@ -4,6 +4,7 @@ use mathlib.Core.Path.{_≡_, refl, sym, _∙_, ap, ap₂}
 use mathlib.Core.Bool.{_&&_}
 use mathlib.Core.List.{List}
 use native.Mathlib.Numerals.{add-one}
+use native.Mathlib.Nat.{mul-add, mul-zero, mul-suc}
 use native.Mathlib.Omega.{arith}
 use lib.ListN.{length, getD, take, drop, length-take, length-drop}
 use lib.Seq.{ext-getD, getD-take, getD-drop, take-add, drop-drop}
@@ -64,25 +65,25 @@ written-other p q row cells n h ne =
     (split q p (λ o. below (16 * p) (16 * p + 16) (16 * q + i) (omega arith)) (λ o. above (16 * p) (16 * p + 16) (16 * q + i) (omega arith)))
     ∙ sym (getD-take 16 (drop (16 * q) cells) i 0 (omega arith) ∙ getD-drop (16 * q) cells i 0))
 
--- the cells of rows that stand one behind the other
-legal-rows : (cells : List ℕ) (a n : ℕ) → all legalCell (take (16 * n) (drop (16 * a) cells)) ≡ all legalRow (tab n (λ i. rowAt cells (a + i)))
+-- the cells of rows of w that stand one behind the other
+pub legal-rows : (cells : List ℕ) (w a n : ℕ) → all legalCell (take (w * n) (drop (w * a) cells)) ≡ all legalRow (tab n (λ i. take w (drop (w * (a + i)) cells)))
 unfolding tab all
-legal-rows cells a zero = refl
-legal-rows cells a (suc n) =
-    ap (λ k. all legalCell (take k (drop (16 * a) cells))) {x = 16 * suc n} {y = 16 * n + 16} (omega arith)
-    ∙ ap (all legalCell) (take-add (16 * n) 16 (drop (16 * a) cells))
-    ∙ all-append legalCell (take (16 * n) (drop (16 * a) cells)) (take 16 (drop (16 * n) (drop (16 * a) cells)))
-    ∙ ap₂ _&&_ (legal-rows cells a n)
-    (ap (λ l. legalRow (take 16 l)) (drop-drop (16 * n) (16 * a) cells)
-    ∙ ap (λ k. legalRow (take 16 (drop k cells))) {x = 16 * a + 16 * n} {y = 16 * (a + n)} (omega arith))
-    ∙ sym (all-next legalRow n (λ i. rowAt cells (a + i)))
-    ∙ ap (λ k. all legalRow (tab k (λ i. rowAt cells (a + i)))) (add-one n)
+legal-rows cells w a zero = ap (λ k. all legalCell (take k (drop (w * a) cells))) (mul-zero w)
+legal-rows cells w a (suc n) =
+    ap (λ k. all legalCell (take k (drop (w * a) cells))) (mul-suc w n)
+    ∙ ap (all legalCell) (take-add (w * n) w (drop (w * a) cells))
+    ∙ all-append legalCell (take (w * n) (drop (w * a) cells)) (take w (drop (w * n) (drop (w * a) cells)))
+    ∙ ap₂ _&&_ (legal-rows cells w a n)
+    (ap (λ l. legalRow (take w l)) (drop-drop (w * n) (w * a) cells)
+    ∙ ap (λ k. legalRow (take w (drop k cells))) (sym (mul-add w a n)))
+    ∙ sym (all-next legalRow n (λ i. take w (drop (w * (a + i)) cells)))
+    ∙ ap (λ k. all legalRow (tab k (λ i. take w (drop (w * (a + i)) cells)))) (add-one n)
 
 -- from row a to before row b
 pub legal-part : (cells : List ℕ) (a b : ℕ)
     → all legalCell (take (16 * b - 16 * a) (drop (16 * a) cells)) ≡ all legalRow (tab (b - a) (λ i. rowAt cells (a + i)))
 legal-part cells a b =
-    ap (λ k. all legalCell (take k (drop (16 * a) cells))) {x = 16 * b - 16 * a} {y = 16 * (b - a)} (omega arith) ∙ legal-rows cells a (b - a)
+    ap (λ k. all legalCell (take k (drop (16 * a) cells))) {x = 16 * b - 16 * a} {y = 16 * (b - a)} (omega arith) ∙ legal-rows cells 16 a (b - a)
 
 -- one row
 pub legal-one : (cells : List ℕ) (at : ℕ) → all legalCell (take (16 * at + 16 - 16 * at) (drop (16 * at) cells)) ≡ legalRow (rowAt cells at)

@@ -1,28 +1,22 @@
-use mathlib.Core.Path.{_∙_}
-use Rattle.air.proofs.Laws.Words.{kind-asked}
+use mathlib.Core.Path.{sym, _∙_}
+use Rattle.limits.proofs.Laws.Choice.{and-goes-on, and-stops}
+use Rattle.air.proofs.Laws.Words.{message-asked}
 use borrow.Author.Needs.{needs}
 use Rattle.air.proofs.lent.message_sound.Statement.{statement}
 use Rattle.air.proofs.lent.message_sound.Tie as tie
 
-enum-told : tie.Need-enum-told
-enum-told c = search needs
+head-sound-requires : tie.Need-head-sound-requires
+head-sound-requires c κs = search needs
 
-data-sound-requires : tie.Need-data-sound-requires
-data-sound-requires c κs = (c .before .before .before .pre .0, rw (c .enum-told .given .1) at (c .before .before .before .pre .1))
-
-enum-told-2 : tie.Need-enum-told-2
-enum-told-2 c = search needs
-
-reply-sound-requires : tie.Need-reply-sound-requires
-reply-sound-requires c κs = (c .before .before .before .pre .0, rw (c .enum-told2 .given .1) at (c .before .before .before .pre .1))
+cells-sound-requires : tie.Need-cells-sound-requires
+cells-sound-requires c κs = search needs
 
 returns : tie.Need-returns
-returns c = c .data-sound .ensures ∙ kind-asked (c .before .before .before .before .args .l) (c .before .before .before .before .args .words .now) (c .before .before .before .before .args .at) _ _ (c .before .enum-told .given .1)
+returns c = let b = c .before .before .before .before in c .cells-sound .ensures ∙ and-goes-on _ _ (sym (c .before .before .head-sound .ensures) ∙ c .before .if1 .taken) ∙ message-asked (b .args .l) (b .args .kind) (b .args .words .now) (b .args .at) (b .pre .0) (b .pre .1)
 
 returns-2 : tie.Need-returns-2
-returns-2 c = c .reply-sound .ensures ∙ kind-asked (c .before .before .before .before .args .l) (c .before .before .before .before .args .words .now) (c .before .before .before .before .args .at) _ _ (c .before .enum-told2 .given .1)
+returns-2 c = let b = c .before .before .before in c .before .head-sound .ensures ∙ and-stops _ _ (sym (c .before .head-sound .ensures) ∙ c .if1 .left) ∙ message-asked (b .args .l) (b .args .kind) (b .args .words .now) (b .args .at) (b .pre .0) (b .pre .1)
 
 pub message-sound-spec : {M : Type 1} → statement M
 message-sound-spec =
-    tie.close
-    (tie.spec enum-told data-sound-requires enum-told-2 reply-sound-requires returns returns-2)
+    tie.close (tie.spec head-sound-requires cells-sound-requires returns returns-2)
