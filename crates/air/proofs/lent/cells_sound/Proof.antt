@@ -14,7 +14,7 @@ add-legal-cells : tie.Need-add-legal-cells
 add-legal-cells c = let h = rw (c .enum-told .given .1) at (c .before .before .before .pre) in omega arith
 
 legal-cells-requires : tie.Need-legal-cells-requires
-legal-cells-requires c κs = let h = rw (c .enum-told .given .1) at (c .before .before .before .pre) in (omega arith, h)
+legal-cells-requires c κs = let h = rw (c .enum-told .given .1) at (c .before .before .before .pre) in (omega arith, omega arith)
 
 enum-told-2 : tie.Need-enum-told-2
 enum-told-2 c = search needs
