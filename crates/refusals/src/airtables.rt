@@ -1,6 +1,4 @@
 // The calls of the two tables.
-use crate::limit;
-use crate::print::line;
 use air::datatable;
 use air::datatable::DataTable;
 use air::messages::DataMessage;
@@ -8,6 +6,7 @@ use air::messages::ReplyMessage;
 use air::replytable;
 use air::replytable::ReplyTable;
 use limits::Limits;
+use tries::line;
 
 // Each call is tried on a table of `count` messages.
 fn put_data(what: &[u8], l: Limits, count: usize, number: u16, life: u16, cell: u16) {
@@ -49,7 +48,7 @@ fn data_of(count: usize) -> DataTable {
 
 // Tables whose one message has a life of 0, the number 4 or a cell of 4096.
 fn data_unsound() {
-    let l = limit::of(2, 1, 4);
+    let l = tries::of(2, 1, 4);
     let mut t = data_of(1);
     t.words[0] = 0;
     let removed = datatable::remove(l, t, 0);
@@ -68,8 +67,8 @@ fn data_unsound() {
 }
 
 pub fn data_tries() {
-    let l = limit::of(2, 1, 4);
-    put_data(b"data put, w 0", limit::of(0, 1, 4), 0, 0, 1, 5);
+    let l = tries::of(2, 1, 4);
+    put_data(b"data put, w 0", tries::of(0, 1, 4), 0, 0, 1, 5);
     put_data(b"data put, number 2w", l, 0, 4, 1, 5);
     put_data(b"data put, life 0", l, 0, 0, 0, 5);
     put_data(b"data put, life 2 of 1", l, 0, 0, 2, 5);
@@ -82,7 +81,7 @@ pub fn data_tries() {
     remove_data(b"data remove, p largest", l, 3, 18446744073709551615);
     remove_data(b"data remove, last message", l, 3, 2);
     read_data(b"data read, empty table", l, 0, 0);
-    read_data(b"data read, wait 3", limit::of(2, 1, 3), 1, 0);
+    read_data(b"data read, wait 3", tries::of(2, 1, 3), 1, 0);
     tick_data(b"data tick 0", l, 3, 0);
     tick_data(b"data tick 65535", l, 32, 65535);
     data_unsound();
@@ -120,7 +119,7 @@ fn replies_of(count: usize) -> ReplyTable {
 
 // Tables whose one message has a life of 0, the first number 4 or the last number 3.
 fn replies_unsound() {
-    let l = limit::of(2, 1, 4);
+    let l = tries::of(2, 1, 4);
     let mut t = replies_of(1);
     t.words[0] = 0;
     let removed = replytable::remove(l, t, 0);
@@ -139,8 +138,8 @@ fn replies_unsound() {
 }
 
 pub fn reply_tries() {
-    let l = limit::of(2, 1, 4);
-    put_reply(b"reply put, w 33", limit::of(33, 1, 4), 0, 0, 0, 1);
+    let l = tries::of(2, 1, 4);
+    put_reply(b"reply put, w 33", tries::of(33, 1, 4), 0, 0, 0, 1);
     put_reply(b"reply put, last 2w", l, 0, 0, 4, 1);
     put_reply(b"reply put, span 3 of 2", l, 0, 3, 1, 1);
     put_reply(b"reply put, life 0", l, 0, 0, 0, 0);
@@ -152,7 +151,7 @@ pub fn reply_tries() {
     remove_reply(b"reply remove, p at the count", l, 3, 3);
     remove_reply(b"reply remove, last message", l, 3, 2);
     read_reply(b"reply read, empty table", l, 0, 0);
-    read_reply(b"reply read, times 0", limit::of(2, 0, 4), 1, 0);
+    read_reply(b"reply read, times 0", tries::of(2, 0, 4), 1, 0);
     tick_reply(b"reply tick 0", l, 3, 0);
     tick_reply(b"reply tick 65535", l, 32, 65535);
     replies_unsound();

@@ -1,16 +1,6 @@
-// Questions 1 to 3, and sound and unsound limits for the other parts.
-use crate::print::line;
-use limits::Limits;
-
-pub fn of(window: usize, time: u16, wait: u16) -> Limits {
-    Limits {
-        window,
-        datalife: time,
-        replylife: time,
-        replywait: time,
-        resendwait: wait,
-    }
-}
+// Questions 1 to 3.
+use tries::line;
+use tries::of;
 
 fn opening(what: &[u8], window: usize, time: u16, wait: u16) {
     let r = limits::accept(of(window, time, wait));

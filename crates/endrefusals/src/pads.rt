@@ -1,8 +1,7 @@
 // The pad's calls.
-use crate::limit;
-use crate::print::line;
 use limits::Limits;
 use pad::Pad;
+use tries::line;
 
 // At a pad that holds nothing.
 fn arrive(what: &[u8], l: Limits, number: usize, cell: u16) {
@@ -40,10 +39,10 @@ fn two() -> Pad {
 }
 
 fn unsound() {
-    let l = limit::of(2, 1, 4);
+    let l = tries::of(2, 1, 4);
     let mut record = [0u16; 32];
-    arrive(b"pad data, w 33", limit::of(33, 1, 4), 0, 5);
-    arrive(b"pad data, wait 0", limit::of(2, 1, 0), 0, 5);
+    arrive(b"pad data, w 33", tries::of(33, 1, 4), 0, 5);
+    arrive(b"pad data, wait 0", tries::of(2, 1, 0), 0, 5);
     arrive(b"pad data, number 2w", l, 4, 5);
     arrive(b"pad data, number largest", l, 18446744073709551615, 5);
     arrive(b"pad data, cell 4096", l, 0, 4096);
@@ -57,11 +56,11 @@ fn unsound() {
     p.cells[0] = 4096;
     run_length(b"pad run, held cell 4096", l, p);
     reply(b"pad reply, held cell 4096", l, p, &mut record);
-    run_length(b"pad run, w 0", limit::of(0, 1, 4), pad::fresh());
+    run_length(b"pad run, w 0", tries::of(0, 1, 4), pad::fresh());
 }
 
 fn refused() {
-    let l = limit::of(2, 1, 4);
+    let l = tries::of(2, 1, 4);
     let mut record = [0u16; 32];
     let mut short = [0u16; 31];
     let mut empty = [0u16; 1];

@@ -1,8 +1,7 @@
 // The mat's calls.
-use crate::limit;
-use crate::print::line;
 use limits::Limits;
 use mat::Mat;
+use tries::line;
 
 // A mat with the rows from `oldest` up to `next` outstanding. Every timer is 4 and every cell 5.
 fn mat_of(oldest: usize, next: usize) -> Mat {
@@ -41,16 +40,16 @@ fn tick(what: &[u8], l: Limits, m: Mat, d: u16) {
 fn unsound_limits() {
     let m = mat::fresh();
     let row = [5u16; 16];
-    send(b"mat send, w 0", limit::of(0, 1, 4), 0, 0, &row);
-    send(b"mat send, w 33", limit::of(33, 1, 4), 0, 0, &row);
-    send(b"mat send, times 251", limit::of(2, 251, 1000), 0, 0, &row);
-    resend(b"mat resend, wait 0", limit::of(2, 1, 0), m, 0);
-    acknowledge(b"mat reply, wait 3", limit::of(2, 1, 3), 0, 0, 0);
-    tick(b"mat tick, wait 1001", limit::of(2, 1, 1001), m, 1);
+    send(b"mat send, w 0", tries::of(0, 1, 4), 0, 0, &row);
+    send(b"mat send, w 33", tries::of(33, 1, 4), 0, 0, &row);
+    send(b"mat send, times 251", tries::of(2, 251, 1000), 0, 0, &row);
+    resend(b"mat resend, wait 0", tries::of(2, 1, 0), m, 0);
+    acknowledge(b"mat reply, wait 3", tries::of(2, 1, 3), 0, 0, 0);
+    tick(b"mat tick, wait 1001", tries::of(2, 1, 1001), m, 1);
 }
 
 fn unsound_mats() {
-    let l = limit::of(2, 1, 4);
+    let l = tries::of(2, 1, 4);
     let row = [5u16; 16];
     send(b"mat send, next 2w", l, 0, 4, &row);
     send(
@@ -75,7 +74,7 @@ fn unsound_mats() {
 }
 
 fn refused() {
-    let l = limit::of(2, 1, 4);
+    let l = tries::of(2, 1, 4);
     let row = [5u16; 16];
     let long = [4096u16; 20];
     let none = mat::fresh();
@@ -97,7 +96,7 @@ fn refused() {
 
 // A later row is acknowledged alone: it may not be sent again.
 fn acknowledged() {
-    let l = limit::of(2, 1, 4);
+    let l = tries::of(2, 1, 4);
     let r = mat::acknowledge(l, mat_of(0, 2), 1, 1);
     let answer = r.answer;
     line(b"mat reply, later row alone", answer);
