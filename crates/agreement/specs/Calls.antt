@@ -12,7 +12,7 @@ use Rattle.events.specs.declared.Link.{Link}
 use Rattle.events.specs.declared.Counts.{Counts}
 use Rattle.events.specs.declared.Progress.{Progress}
 use Rattle.events.specs.State.{noCounts, added}
-use Rattle.link.specs.View.{Stepped, Ran, wholeRows, lentQuestions}
+use Rattle.runs.specs.View.{Stepped, Ran, wholeRows, lentQuestions}
 
 -- a run with its event bytes and the contents of its answer buffer, or a single event
 pub data Call : Type 0 where

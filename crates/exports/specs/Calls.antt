@@ -11,7 +11,8 @@ use Rattle.limits.specs.Questions.{pick}
 use Rattle.events.specs.declared.Counts.{Counts}
 use Rattle.events.specs.declared.Progress.{Progress}
 use Rattle.link.specs.declared.Opening.{Opening}
-use Rattle.link.specs.View.{Opened, Stepped, Ran}
+use Rattle.runs.specs.View.{Stepped, Ran}
+use Rattle.link.specs.View.{Opened}
 use Rattle.agreement.specs.Calls.{Made, Line, following, Met}
 use Rattle.ride.specs.declared.Outcome.{Outcome}
 use Rattle.ride.specs.Ride.{Rode}

@@ -224,7 +224,7 @@ pub extern "C" fn matlink_lent_step(
     let l = limits_of(h);
     let mut marks = marks_of(*matmark);
     let mut held = marks_of(*padmark);
-    let s = link::lent::lent_step(
+    let s = runs::lent_step(
         l,
         numbers_of(h),
         &mut marks,
@@ -281,7 +281,7 @@ pub extern "C" fn matlink_lent_run(
     let l = limits_of(h);
     let mut marks = marks_of(*matmark);
     let mut held = marks_of(*padmark);
-    let s = link::lent::lent_run(
+    let s = runs::lent_run(
         l,
         numbers_of(h),
         &mut marks,

@@ -2,11 +2,8 @@
 ghost use mathlib.Core.Path.{_≡_};
 ghost use Rattle.events.specs.View.{soundLink};
 ghost use Rattle.events.specs.Lent.{numbersOf, linkOf, arrays};
-ghost use Rattle.link.specs.View.{freshLink, Opened, Stepped, Ran};
-
-pub mod lent;
-mod lentrun;
-
+ghost use Rattle.runs.specs.View.{Stepped, Ran};
+ghost use Rattle.link.specs.View.{freshLink, Opened};
 use air::datatable;
 use air::replytable;
 use events::Link;
@@ -102,7 +99,7 @@ pub fn sound(k: Link) -> bool
     let padcells = pad::cells_of(p);
     let datas = datatable::words_of(k.datas);
     let replies = replytable::words_of(k.replies);
-    lent::lent_sound(
+    runs::lent_sound(
         l,
         n,
         &marks,
@@ -133,7 +130,7 @@ pub fn step(k: Link, kind: u8, argument: u8, supply: &[u16], record: &mut [u16])
     let mut padcells = pad::cells_of(p);
     let mut datas = datatable::words_of(k.datas);
     let mut replies = replytable::words_of(k.replies);
-    let s = lent::lent_step(
+    let s = runs::lent_step(
         l,
         n,
         &mut marks,
@@ -193,7 +190,7 @@ pub fn run(
     let mut padcells = pad::cells_of(p);
     let mut datas = datatable::words_of(k.datas);
     let mut replies = replytable::words_of(k.replies);
-    let s = lent::lent_run(
+    let s = runs::lent_run(
         l,
         n,
         &mut marks,

@@ -10,7 +10,7 @@ use Rattle.unbounded.specs.Ends.{Ends, fresh}
 use Rattle.unbounded.specs.Lists as unbounded
 use Rattle.events.specs.declared.Counts.{Counts}
 use Rattle.events.specs.State.{noCounts}
-use Rattle.link.specs.View.{lentQuestions}
+use Rattle.runs.specs.View.{lentQuestions}
 use Rattle.ride.specs.declared.Outcome.{Outcome}
 
 -- 1, 2, 3 of the limits, then 5, 6, 7 of what is lent. A link just opened passes 4.

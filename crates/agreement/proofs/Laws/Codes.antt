@@ -11,7 +11,7 @@ use Rattle.limits.specs.Events.{Event, unknown, misfit, send, resend, arriveDat
 use Rattle.limits.proofs.Laws.Choice.{and-left, and-right, both, pick-cases}
 use Rattle.events.specs.State.{LinkState}
 use Rattle.events.specs.Rules as link
-use Rattle.link.specs.View.{wholeRows, lentQuestions}
+use Rattle.runs.specs.View.{wholeRows, lentQuestions}
 use Rattle.unbounded.specs.Ends.{Ends}
 use Rattle.unbounded.specs.Rules as unbounded
 use Rattle.unbounded.specs.Lists.{answers}

@@ -1,5 +1,5 @@
 use borrow.Author.Needs.{needs}
-use Rattle.link.specs.View.{Ran}
+use Rattle.runs.specs.View.{Ran}
 use Rattle.link.proofs.Laws.Apart.{apart, together}
 use Rattle.link.proofs.run.Statement.{statement}
 use Rattle.link.proofs.run.Tie as tie

@@ -1,5 +1,5 @@
 use borrow.Author.Needs.{needs}
-use Rattle.link.specs.View.{Stepped}
+use Rattle.runs.specs.View.{Stepped}
 use Rattle.link.proofs.Laws.Apart.{apart, together}
 use Rattle.link.proofs.step.Statement.{statement}
 use Rattle.link.proofs.step.Tie as tie

@@ -19,7 +19,7 @@ use Rattle.unbounded.specs.Lists.{answers, afterAll}
 use Rattle.unbounded.proofs.Laws.Invariant.{Inv, fresh-inv}
 use Rattle.unbounded.proofs.Laws.Keep.{keep-after}
 use Rattle.unbounded.proofs.Laws.Carried.{Carried, fresh-carried, carried-after}
-use Rattle.link.specs.View.{lentQuestions}
+use Rattle.runs.specs.View.{lentQuestions}
 use Rattle.ride.specs.Ride.{rideQuestions, endsOf, answersOf}
 
 -- what an end holds: the counts in their order, and no row beyond the supply

@@ -22,9 +22,10 @@ use Rattle.events.specs.declared.Counts.{Counts}
 use Rattle.link.specs.declared.Opening.{Opening}
 use Rattle.events.specs.declared.Progress.{Progress}
 use Rattle.events.specs.State.{noCounts, unmoved}
-use Rattle.link.specs.Runs as runs
+use Rattle.runs.specs.Runs as runs
 use Rattle.events.specs.View.{linkState, soundLink, shown}
-use Rattle.link.specs.View.{Opened, Ran, Run, running, lentQuestions}
+use Rattle.runs.specs.View.{Ran, Run, running, lentQuestions}
+use Rattle.link.specs.View.{Opened}
 use Rattle.agreement.specs.Calls.{run, Made, start, endOf, allEvents}
 use Rattle.agreement.specs.Agreed.{Same, Agreed}
 use Rattle.agreement.proofs.Laws.Shift.{length-answers}

@@ -4,8 +4,8 @@ use Rattle.limits.proofs.Laws.Choice.{and-goes-on, and-stops}
 use Rattle.air.specs.Kinds.{lent}
 use Rattle.air.proofs.Laws.Typed.{data-sound, reply-sound}
 use Rattle.events.specs.View.{soundLink}
-use Rattle.link.proofs.lent.lent_sound.Statement.{statement}
-use Rattle.link.proofs.lent.lent_sound.Tie as tie
+use Rattle.runs.proofs.lent_sound.Statement.{statement}
+use Rattle.runs.proofs.lent_sound.Tie as tie
 
 sound-limits-requires : tie.Need-sound-limits-requires
 sound-limits-requires c κs = search needs

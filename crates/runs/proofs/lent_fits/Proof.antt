@@ -1,6 +1,6 @@
-use Rattle.link.proofs.Laws.Calls.{fits-all, fits-short, fits-partial, fits-odd}
-use Rattle.link.proofs.lent.lent_fits.Statement.{statement}
-use Rattle.link.proofs.lent.lent_fits.Tie as tie
+use Rattle.runs.proofs.Laws.Calls.{fits-all, fits-short, fits-partial, fits-odd}
+use Rattle.runs.proofs.lent_fits.Statement.{statement}
+use Rattle.runs.proofs.lent_fits.Tie as tie
 
 returns : tie.Need-returns
 returns c = fits-all _ _ _ (c .before .before .if1 .taken) (c .before .if2 .taken) (c .if3 .taken)

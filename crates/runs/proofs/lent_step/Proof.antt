@@ -6,11 +6,11 @@ use Rattle.limits.specs.Answer.{numberOf}
 use Rattle.limits.proofs.Laws.Promise.{not-done}
 use Rattle.events.specs.Lent.{arrays, linkOf, progressOf}
 use Rattle.events.proofs.Laws.Stays.{stayed-at}
-use Rattle.link.proofs.Laws.Calls.{step-asked, step-partial, step-unsound}
-use Rattle.link.proofs.Laws.Running.{arrays-kept}
-use Rattle.link.proofs.Laws.Single.{single-done, single-refused, one-refused}
-use Rattle.link.proofs.lent.lent_step.Statement.{statement}
-use Rattle.link.proofs.lent.lent_step.Tie as tie
+use Rattle.runs.proofs.Laws.Calls.{step-asked, step-partial, step-unsound}
+use Rattle.runs.proofs.Laws.Running.{arrays-kept}
+use Rattle.runs.proofs.Laws.Single.{single-done, single-refused, one-refused}
+use Rattle.runs.proofs.lent_step.Statement.{statement}
+use Rattle.runs.proofs.lent_step.Tie as tie
 
 lent-sound-requires : tie.Need-lent-sound-requires
 lent-sound-requires c κs = search needs

@@ -5,8 +5,10 @@ ghost use Rattle.limits.specs.Answer.{numberOf};
 ghost use Rattle.limits.specs.Questions.{firstNo};
 ghost use Rattle.events.specs.View.{soundLink};
 ghost use Rattle.events.specs.Lent.{arrays, linkOf, progressOf};
-ghost use Rattle.link.specs.View.{lentAsks, Stepped, Ran};
-use crate::lentrun;
+ghost use Rattle.runs.specs.View.{lentAsks, Stepped, Ran};
+
+mod lentrun;
+
 use air::lent;
 use air::lent::Kind;
 use events::moves;

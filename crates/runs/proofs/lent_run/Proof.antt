@@ -5,9 +5,9 @@ use Rattle.limits.specs.Answer.{numberOf}
 use Rattle.limits.proofs.Laws.Promise.{not-done}
 use Rattle.events.specs.Lent.{arrays, linkOf}
 use Rattle.events.proofs.Laws.Stays.{stayed-at}
-use Rattle.link.proofs.Laws.Calls.{run-asked, run-needs, run-done, run-unsound}
-use Rattle.link.proofs.lent.lent_run.Statement.{statement}
-use Rattle.link.proofs.lent.lent_run.Tie as tie
+use Rattle.runs.proofs.Laws.Calls.{run-asked, run-needs, run-done, run-unsound}
+use Rattle.runs.proofs.lent_run.Statement.{statement}
+use Rattle.runs.proofs.lent_run.Tie as tie
 
 lent-sound-requires : tie.Need-lent-sound-requires
 lent-sound-requires c κs = search needs

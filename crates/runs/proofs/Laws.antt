@@ -1,0 +1,4 @@
+pub mod Calls
+pub mod Rises
+pub mod Running
+pub mod Single
