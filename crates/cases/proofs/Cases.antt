@@ -19,7 +19,7 @@ use Rattle.unbounded.specs.Ends.{at}
 use Rattle.unbounded.specs.Rules.{after}
 use Rattle.unbounded.specs.Lists as unbounded
 use Rattle.events.specs.Rules.{stepped}
-use Rattle.runs.specs.Runs as built
+use Rattle.lists.specs.Runs as built
 use Rattle.events.specs.View.{linkState}
 use Rattle.cases.specs.Cases.{Holds, table, Every}
 

@@ -20,7 +20,7 @@ use Rattle.frames.specs.Rules.{readQuestions}
 use Rattle.unbounded.specs.Ends.{Ends, fresh}
 use Rattle.unbounded.specs.Lists as unbounded
 use Rattle.events.specs.State.{Moved, unmoved}
-use Rattle.runs.specs.Runs as built
+use Rattle.lists.specs.Runs as built
 use Rattle.events.specs.View.{linkState}
 use Rattle.link.specs.View.{freshLink}
 

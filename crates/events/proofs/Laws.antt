@@ -7,4 +7,3 @@ pub mod Arriving
 pub mod Replying
 pub mod Acknowledging
 pub mod Ticking
-pub mod Decoding

@@ -1,6 +1,5 @@
 // The events of a link: what each asks and does, on the link's numbers and its lent arrays.
 pub mod airevents;
-pub mod dispatch;
 pub mod matevents;
 pub mod moves;
 pub mod padevents;

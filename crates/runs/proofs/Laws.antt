@@ -1,4 +1,2 @@
 pub mod Calls
-pub mod Rises
-pub mod Running
 pub mod Single

@@ -7,8 +7,6 @@ ghost use Rattle.events.specs.View.{soundLink};
 ghost use Rattle.events.specs.Lent.{arrays, linkOf, progressOf};
 ghost use Rattle.runs.specs.View.{lentAsks, Stepped, Ran};
 
-mod lentrun;
-
 use air::lent;
 use air::lent::Kind;
 use events::moves;
@@ -16,6 +14,7 @@ use events::moves::Numbers;
 use events::moves::Step;
 use limits::Limits;
 use limits::answer::Answer;
+use lists::lentrun;
 use mat::soundmat;
 use pad::soundpad;
 

@@ -13,9 +13,10 @@ use Rattle.limits.specs.Events.{Event, event, events}
 use Rattle.limits.proofs.Laws.Choice.{pick-yes}
 use Rattle.events.specs.State.{Moved, unmoved}
 use Rattle.events.specs.Rules.{questions, acted, answer, stepped}
-use Rattle.runs.specs.Runs.{supplyLeft, bufferLeft, continued, next, afterAll, answers}
+use Rattle.lists.specs.Runs.{supplyLeft, bufferLeft, continued, next, afterAll, answers}
 use Rattle.events.specs.View.{linkState, soundLink, shown}
-use Rattle.runs.specs.View.{Run, running, wholeRows, lentQuestions}
+use Rattle.lists.specs.View.{Run, running}
+use Rattle.runs.specs.View.{wholeRows, lentQuestions}
 use Rattle.agreement.specs.Calls.{Call, run, single, Made, Line, following, Met, eventsOf, givenBy}
 use Rattle.agreement.proofs.Laws.Codes.{not4, run-not4, single-not4}
 use Rattle.agreement.proofs.Laws.Shift.{continued-unmoved, shift, shift-numbers, length-answers}

@@ -8,7 +8,7 @@ use lib.Seq.{length-take-le, take-append-add, drop-append-add, drop-drop}
 use Rattle.limits.specs.Events.{Event}
 use Rattle.events.specs.State.{Moved, unmoved}
 use Rattle.events.specs.Rules.{answer, stepped}
-use Rattle.runs.specs.Runs.{supplyLeft, bufferLeft, continued, next, afterAll, answers}
+use Rattle.lists.specs.Runs.{supplyLeft, bufferLeft, continued, next, afterAll, answers}
 
 pub moved-same : (x y : Moved) → x .state ≡ y .state → x .counts .sent ≡ y .counts .sent → x .counts .acknowledged ≡ y .counts .acknowledged
     → x .counts .recorded ≡ y .counts .recorded

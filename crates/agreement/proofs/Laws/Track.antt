@@ -14,7 +14,7 @@ use Rattle.limits.specs.Events.{Event}
 use Rattle.limits.proofs.Laws.Good.{Good}
 use Rattle.events.specs.State.{Moved, unmoved}
 use Rattle.events.specs.Rules as link
-use Rattle.runs.specs.Runs as runs
+use Rattle.lists.specs.Runs as runs
 use Rattle.unbounded.specs.Ends.{Ends}
 use Rattle.unbounded.specs.Rules as unbounded
 use Rattle.unbounded.specs.Lists as lists

@@ -22,9 +22,10 @@ use Rattle.events.specs.declared.Counts.{Counts}
 use Rattle.link.specs.declared.Opening.{Opening}
 use Rattle.events.specs.declared.Progress.{Progress}
 use Rattle.events.specs.State.{noCounts, unmoved}
-use Rattle.runs.specs.Runs as runs
+use Rattle.lists.specs.Runs as runs
 use Rattle.events.specs.View.{linkState, soundLink, shown}
-use Rattle.runs.specs.View.{Ran, Run, running, lentQuestions}
+use Rattle.lists.specs.View.{Run, running}
+use Rattle.runs.specs.View.{Ran, lentQuestions}
 use Rattle.link.specs.View.{Opened}
 use Rattle.agreement.specs.Calls.{run, Made, start, endOf, allEvents}
 use Rattle.agreement.specs.Agreed.{Same, Agreed}

@@ -19,7 +19,8 @@ use Rattle.events.specs.declared.Link.{Link}
 use Rattle.events.specs.declared.Progress.{Progress}
 use Rattle.events.specs.Rules.{questions}
 use Rattle.events.specs.View.{linkState, soundLink, shown, Moves}
-use Rattle.runs.specs.View.{Stepped, Ran, wholeRows, lentAsks, lentQuestions, running}
+use Rattle.lists.specs.View.{running}
+use Rattle.runs.specs.View.{Stepped, Ran, wholeRows, lentAsks, lentQuestions}
 use Rattle.events.proofs.Laws.Stays.{Stayed, shown-stays, stays-refused}
 
 -- a question that is answered no, and one that is passed, in front of others

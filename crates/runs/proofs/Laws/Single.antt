@@ -18,9 +18,9 @@ use Rattle.events.specs.declared.Link.{Link}
 use Rattle.events.specs.declared.Progress.{Progress}
 use Rattle.events.specs.State.{LinkState, Moved, unmoved}
 use Rattle.events.specs.Rules.{answer, stepped}
-use Rattle.runs.specs.Runs.{continued, next, afterAll, answers}
+use Rattle.lists.specs.Runs.{continued, next, afterAll, answers}
 use Rattle.events.specs.View.{linkState, soundLink, shown, Moves}
-use Rattle.runs.specs.View.{Run, refuses, running}
+use Rattle.lists.specs.View.{Run, refuses, running}
 use Rattle.events.proofs.Laws.Stays.{Stayed, stays-refused}
 
 next-first : (supply before : List ℕ) (s : LinkState) (e : Event) → next supply (unmoved s before) e ≡ stepped supply before s e

@@ -7,7 +7,7 @@ use Rattle.limits.proofs.Laws.Promise.{not-done}
 use Rattle.events.specs.Lent.{arrays, linkOf, progressOf}
 use Rattle.events.proofs.Laws.Stays.{stayed-at}
 use Rattle.runs.proofs.Laws.Calls.{step-asked, step-partial, step-unsound}
-use Rattle.runs.proofs.Laws.Running.{arrays-kept}
+use Rattle.lists.proofs.Laws.Running.{arrays-kept}
 use Rattle.runs.proofs.Laws.Single.{single-done, single-refused, one-refused}
 use Rattle.runs.proofs.lent_step.Statement.{statement}
 use Rattle.runs.proofs.lent_step.Tie as tie

@@ -5,9 +5,9 @@ use lib.ListN.{length}
 use borrow.Author.Needs.{needs}
 use Rattle.limits.proofs.Laws.Promise.{not-done}
 use Rattle.events.specs.Lent.{arrays, linkOf}
-use Rattle.runs.proofs.Laws.Running.{Going, Last, room, starts-with, arrays-kept, turn-done, turn-refused, counts-fit, finishes, all-refused, last-set, last-at}
-use Rattle.runs.proofs.lentrun.run_events.Statement.{statement}
-use Rattle.runs.proofs.lentrun.run_events.Tie as tie
+use Rattle.lists.proofs.Laws.Running.{Going, Last, room, starts-with, arrays-kept, turn-done, turn-refused, counts-fit, finishes, all-refused, last-set, last-at}
+use Rattle.lists.proofs.lentrun.run_events.Statement.{statement}
+use Rattle.lists.proofs.lentrun.run_events.Tie as tie
 
 abbrev Inv-loop : tie.InvT-loop
 Inv-loop l marks₀ mattimers₀ matcells₀ held₀ padtimers₀ padcells₀ datas₀ replies₀ events supply record₀ answers₀ count at₀ last₀ counts₀ i₀ marks mattimers matcells held padtimers padcells datas replies «record» answers at last counts i =

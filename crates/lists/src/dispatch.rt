@@ -3,14 +3,14 @@
 ghost use mathlib.Core.Path.{_≡_};
 ghost use mathlib.Core.Bool.{true};
 ghost use Rattle.limits.specs.Events.{event};
 ghost use Rattle.events.specs.View.{soundLink};
 ghost use Rattle.events.specs.Lent.{arrays, linkOf, LentMoves};
-use crate::airevents;
-use crate::matevents;
-use crate::moves;
-use crate::moves::Numbers;
-use crate::moves::Step;
-use crate::padevents;
+use events::airevents;
+use events::matevents;
+use events::moves;
+use events::moves::Numbers;
+use events::moves::Step;
+use events::padevents;
 use limits::Limits;
 use limits::answer::Answer;
 

@@ -30,11 +30,11 @@ use Rattle.events.specs.declared.Counts.{Counts}
 use Rattle.events.specs.declared.Progress.{Progress}
 use Rattle.events.specs.State.{Moved, noCounts, added, unmoved}
 use Rattle.events.specs.Rules.{stepped}
-use Rattle.runs.specs.Runs.{continued, next, afterAll, answers}
+use Rattle.lists.specs.Runs.{continued, next, afterAll, answers}
 use Rattle.events.specs.View.{linkState, soundLink, shown, Moves}
-use Rattle.runs.specs.View.{refuses, running}
+use Rattle.lists.specs.View.{refuses, running}
 use Rattle.events.proofs.Laws.Parts.{parts}
-use Rattle.runs.proofs.Laws.Rises.{rises-of}
+use Rattle.lists.proofs.Laws.Rises.{rises-of}
 
 abbrev pub reached : Link → Counts → List ℕ → Moved
 reached link counts rec = record { state = linkState link; counts = counts; buffer = rec }

@@ -1,11 +1,11 @@
 use borrow.Author.Needs.{needs}
 use mathlib.Core.List.{[]}
 use Rattle.events.proofs.Laws.Parts.{parts, mat-numbers, pad-number}
 use Rattle.events.proofs.Laws.Stays.{stayed-at}
-use Rattle.events.proofs.Laws.Decoding.{is-send, no-send, is-resend, is-arriveData, is-reply, no-reply, is-arriveReply, is-loseData, is-loseReply, is-tick, no-tick, is-unknown, moves-as, misfit-stays, unknown-stays}
+use Rattle.lists.proofs.Laws.Decoding.{is-send, no-send, is-resend, is-arriveData, is-reply, no-reply, is-arriveReply, is-loseData, is-loseReply, is-tick, no-tick, is-unknown, moves-as, misfit-stays, unknown-stays}
 use Rattle.air.proofs.Laws.Typed.{data-count, reply-count}
-use Rattle.events.proofs.dispatch.event.Statement.{statement}
-use Rattle.events.proofs.dispatch.event.Tie as tie
+use Rattle.lists.proofs.dispatch.event.Statement.{statement}
+use Rattle.lists.proofs.dispatch.event.Tie as tie
 
 send-requires : tie.Need-send-requires
 send-requires c κs = let p = parts _ (c .before .before .before .before .before .before .before .pre) in let q = mat-numbers _ p in (p .limits, q .0, q .1, q .2, p .datas)

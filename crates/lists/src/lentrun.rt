@@ -1,4 +1,4 @@
-// Inner: called by this crate alone. A run of a link that passed question 4, on its numbers and its arrays, which change in place.
+// Inner: called by the link. A run of a link that passed question 4, on its numbers and its arrays, which change in place.
 ghost use mathlib.Core.Path.{_≡_};
 ghost use mathlib.Core.Bool.{true};
 ghost use Prim.Native.Nat.{_-_, _/_, _%_, _≤_};
@@ -7,8 +7,8 @@ ghost use Rattle.limits.specs.Answer.{numberOf};
 ghost use Rattle.limits.specs.Lists.{all};
 ghost use Rattle.events.specs.View.{soundLink, shown};
 ghost use Rattle.events.specs.Lent.{arrays, linkOf, progressOf};
-ghost use Rattle.runs.specs.View.{refuses, running};
-use events::dispatch;
+ghost use Rattle.lists.specs.View.{refuses, running};
+use crate::dispatch;
 use events::moves;
 use events::moves::Numbers;
 use events::moves::Step;
