@@ -6,7 +6,6 @@ ghost use Rattle.limits.specs.Questions.{firstNo};
 ghost use Rattle.events.specs.View.{soundLink};
 ghost use Rattle.events.specs.Lent.{arrays, linkOf, progressOf};
 ghost use Rattle.runs.specs.View.{lentAsks, Stepped, Ran};
-
 use air::lent;
 use air::lent::Kind;
 use events::moves;
