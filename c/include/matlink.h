@@ -46,9 +46,10 @@
 extern "C" {
 #endif
 
-/* A link. It has no padding, so two links can be compared and copied byte for byte, and a copy is a link as good as the first.
- * Whoever makes one up or changes a number may write anything: question 4 is put by every call. A mark is off for 0 and on for
- * anything else, and a call that is done leaves 0 or 1. */
+/* A link. It has no padding and can be copied byte for byte; a copy is a link as good as the first. What a call leaves where no
+ * row is kept and no message is in the air is not promised, so two links in the same state may differ there. Whoever makes a link
+ * up or changes a number may write anything: question 4 is put by every call. A mark is off for 0 and on for anything else, and a
+ * call that is done leaves 0 or 1. */
 struct matlink {
     uint16_t window, data_life, reply_life, reply_wait, resend_wait;
     uint16_t oldest, next, wanted, data_count, reply_count;

@@ -1,4 +1,4 @@
-// Inner: called by the two tables and by the link. Question 4 and the calls on a lent table of either kind.
+// Inner: called by the two tables, events and runs. Question 4 and the calls on a lent table of either kind.
 ghost use mathlib.Core.Path.{_≡_};
 ghost use mathlib.Core.Bool.{true, _&&_};
 ghost use mathlib.Core.List.{_∷_};

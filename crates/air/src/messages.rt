@@ -1,4 +1,4 @@
-// Inner: called by the two tables and by the link. The two kinds of message, and their words: the life first, then a number and
+// Inner: called by the two tables and by changes. The two kinds of message, and their words: the life first, then a number and
 // sixteen cells, or a first and a last number.
 ghost use mathlib.Core.Path.{_≡_};
 ghost use Prim.Native.Nat.{_+_, _*_, _≤_};

@@ -1,4 +1,4 @@
-// Inner: called by the events and by the link. What an event or a run takes and gives beside the lent arrays: numbers, counts and
+// Inner: called by events, lists and runs. What an event or a run takes and gives beside the lent arrays: numbers, counts and
 // the answer. Each function changes one of them, so that another number or count is written here alone.
 ghost use mathlib.Core.Path.{_≡_};
 ghost use Prim.Native.Nat.{_+_, _^_, _<_};

@@ -8,7 +8,7 @@ use Rattle.limits.specs.declared.Limits.{Limits}
 use Rattle.limits.specs.Questions.{pick}
 use Rattle.events.specs.declared.Link.{Link}
 use Rattle.events.specs.declared.moves.Numbers.{Numbers}
-use Rattle.events.specs.Lent.{arrays, linkOf}
+use Rattle.events.specs.Lent.{arrays, linkOf, numbersOf}
 
 pub record CLink : Type 0 where
   pub head : List ℕ
@@ -62,7 +62,5 @@ linkAt s =
 -- how a link is stored
 abbrev pub stored : Link → CLink
 stored k =
-    clink
-    (headOf (k .limits)
-    (record { oldest = k .mat .oldest; next = k .mat .next; wanted = k .pad .wanted; datas = k .datas .count; replies = k .replies .count }))
+    clink (headOf (k .limits) (numbersOf k))
     (map bit (k .mat .marks)) (k .mat .timers) (k .mat .cells) (map bit (k .pad .held)) (k .pad .timers) (k .pad .cells) (k .datas .words) (k .replies .words)

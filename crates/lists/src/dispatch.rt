@@ -1,4 +1,4 @@
-// Inner: called by the link. An event of two bytes, of a link that passed question 4, on its numbers and its arrays. The arrays are
+// Inner: called by lentrun. An event of two bytes, of a link that passed question 4, on its numbers and its arrays. The arrays are
 // lent and change in place; a refused event leaves them as they are.
 ghost use mathlib.Core.Path.{_≡_};
 ghost use mathlib.Core.Bool.{true};

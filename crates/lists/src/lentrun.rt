@@ -1,4 +1,4 @@
-// Inner: called by the link. A run of a link that passed question 4, on its numbers and its arrays, which change in place.
+// Inner: called by runs. A run of a link that passed question 4, on its numbers and its arrays, which change in place.
 ghost use mathlib.Core.Path.{_≡_};
 ghost use mathlib.Core.Bool.{true};
 ghost use Prim.Native.Nat.{_-_, _/_, _%_, _≤_};

@@ -1,4 +1,4 @@
-// Inner: called by the pad's public calls and by the link. The pad's events where question 4 has been put and passed. Each takes
+// Inner: called by the pad's public calls, events and runs. The pad's events where question 4 has been put and passed. Each takes
 // the numbers and arrays that it needs; arrays are lent and change in place.
 ghost use mathlib.Core.Path.{_≡_};
 ghost use mathlib.Core.Bool.{Bool, true, false, _&&_};

@@ -1,4 +1,4 @@
-// Inner: called by air, mat, pad, frames and exports. Work on rows of 16 cells and on arrays of 32 entries, each helper with what
+// Inner: called by tables, air, mat, pad and frames. Work on rows of 16 cells and on arrays of 32 entries, each helper with what
 // it needs alone.
 ghost use mathlib.Core.Path.{_≡_};
 ghost use Prim.Native.Nat.{_+_, _-_, _≤_, _<_, _%_};

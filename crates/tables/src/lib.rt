@@ -1,5 +1,5 @@
-// Inner: called by air and by the link. A table of messages as a lent slice of words: message p stands at width * p, its life
-// first. What is written here serves tables of every width.
+// Inner: called by air. A table of messages as a lent slice of words: message p stands at width * p, its life first. What is
+// written here serves tables of every width.
 ghost use mathlib.Core.Path.{_≡_};
 ghost use mathlib.Core.List.{map};
 ghost use Prim.Native.Nat.{_+_, _-_, _*_, _≤_, _<_};
