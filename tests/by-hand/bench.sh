@@ -58,3 +58,20 @@ echo '|---|---|---|'
 for name in open step run; do echo "| matlink_lent_$name | $(code "matlink_lent_$name") |"; done
 echo "| these three together | $(code matlink_lent_open matlink_lent_step matlink_lent_run) |"
 echo "| all six | $(code matlink_lent_{open,step,run,ride,read_frame,write_frame}) |"
+
+beside=$out/beside
+cc -std=gnu11 -Wall -Wextra -pedantic -O2 -I c/include -o "$beside" tests/by-hand/beside.c "$library"
+
+echo
+echo '| way | one row at a time | 8 in a batch | 32 in a batch |'
+echo '|---|---|---|---|'
+"$beside" list >"$out/ways"
+while IFS=$'\t' read -r n name rows; do
+    line="| $name |"
+    # rows in a batch, w
+    for sizes in '1 8' '8 8' '32 32'; do
+        all=$(instructions all_rows "$beside" way "$n" $sizes)
+        line+=$(awk -v a="$all" -v r="$rows" 'BEGIN { printf " %.0f |", a/r }')
+    done
+    echo "$line"
+done <"$out/ways"

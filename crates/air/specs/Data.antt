@@ -6,7 +6,7 @@ use mathlib.Core.List.{List, map}
 use lib.ListN.{getD, replicate}
 use Rattle.limits.specs.declared.Limits.{Limits}
 use Rattle.limits.specs.Questions.{Question, Answers, Called}
-use Rattle.limits.specs.Tables.{Message, Data, onBody, soundData}
+use Rattle.limits.specs.Tables.{Message, Data, noData, onBody, soundData}
 use Rattle.air.specs.declared.datatable.DataTable.{DataTable}
 use Rattle.air.specs.declared.changes.FoundData.{FoundData}
 use Rattle.air.specs.declared.messages.DataMessage.{DataMessage}
@@ -25,9 +25,6 @@ dataMessages t = map (onBody dataOf) (messages 18 (t .count) (t .words))
 
 abbrev pub dataMessage : DataMessage → Message Data
 dataMessage m = record { body = record { number = m .number; row = m .row }; life = m .life }
-
-abbrev pub noData : Message Data
-noData = record { body = record { number = 0; row = replicate 16 0 }; life = 0 }
 
 abbrev pub emptyData : DataTable
 emptyData = record { count = 0; words = replicate 576 0 }

@@ -6,7 +6,7 @@ use mathlib.Core.List.{List, map}
 use lib.ListN.{getD, replicate}
 use Rattle.limits.specs.declared.Limits.{Limits}
 use Rattle.limits.specs.Questions.{Question, Answers, Called}
-use Rattle.limits.specs.Tables.{Message, Reply, onBody, soundReply}
+use Rattle.limits.specs.Tables.{Message, Reply, noReply, onBody, soundReply}
 use Rattle.air.specs.declared.replytable.ReplyTable.{ReplyTable}
 use Rattle.air.specs.declared.changes.FoundReply.{FoundReply}
 use Rattle.air.specs.declared.messages.ReplyMessage.{ReplyMessage}
@@ -25,9 +25,6 @@ replyMessages t = map (onBody replyOf) (messages 3 (t .count) (t .words))
 
 abbrev pub replyMessage : ReplyMessage → Message Reply
 replyMessage m = record { body = record { first = m .first; last = m .last }; life = m .life }
-
-abbrev pub noReply : Message Reply
-noReply = record { body = record { first = 0; last = 0 }; life = 0 }
 
 abbrev pub emptyReplies : ReplyTable
 emptyReplies = record { count = 0; words = replicate 96 0 }

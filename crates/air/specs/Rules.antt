@@ -7,11 +7,11 @@ use lib.ListN.{length}
 use Rattle.limits.specs.Lists.{all}
 use Rattle.limits.specs.Questions.{Question, ask}
 use Rattle.limits.specs.Limits.{between}
-use Rattle.limits.specs.Tables.{Message, capacity}
+use Rattle.limits.specs.Tables.{Message, capacity, hasRoom}
 
 -- a message more: 13 in the data table, 18 in the reply table
 abbrev pub roomQuestions : {A : Type 0} → ℕ → List A → List Question
-roomQuestions code ms = ask code (ltb (length ms) capacity) ∷ []
+roomQuestions code ms = ask code (hasRoom ms) ∷ []
 
 -- message p is in the table
 abbrev pub placeQuestions : {A : Type 0} → ℕ → List A → List Question

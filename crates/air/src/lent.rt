@@ -50,14 +50,13 @@ fn wide(x: u16) -> usize
     x as usize
 }
 
-// Question 4 of a data message but for its cells.
+// Question 4 of a data message but for its cells. The number is read only where the life passes, so that the compiler leaves the
+// loop over messages a plain one: vector code that gathers words a width apart is long, and slower.
 fn data_head_sound(l: Limits, words: &[u16], at: usize) -> bool
     requires { ⌜ (soundLimits l ≡ true) × (at + 18 ≤ length (now words)) ⌝ }
     ensures { λ r. ⌜ r ≡ soundHead l Kind.OfData (entry 18 (λ k. getD (now (words .entry)) (at + k) 0)) ⌝ }
 {
-    let number = wide(words[at + 1]);
-    let lives = limits::within(1, l.datalife, words[at]);
-    rows::both(lives, number < 2 * l.window)
+    limits::within(1, l.datalife, words[at]) && wide(words[at + 1]) < 2 * l.window
 }
 
 fn reply_sound(l: Limits, words: &[u16], at: usize) -> bool

@@ -1,8 +1,12 @@
--- The rules give what the table of bench cases says, by computation.
-use mathlib.Core.Path.{refl}
+-- The rules give what the table of bench cases says, for every w from 1 to 32, by computation.
+use Prim.Native.Nat.{ℕ, _+_, _-_, _≤_}
+use mathlib.Core.Path.{_≡_, refl, sym, ap, _∙_}
+use native.Mathlib.Omega.{arith}
+use lib.ListN.{getD, replicate, getD-replicate}
+use Rattle.limits.proofs.Laws.Lists.{getD-tab}
 use Rattle.limits.specs.Lists.{tab, all, leading, joined}
-use Rattle.limits.specs.Limits.{leastWait, defaultWait, windowFits, timesFit, waitFits, accepted}
-use Rattle.limits.specs.Questions.{pick}
+use Rattle.limits.specs.Limits.{limitsQuestions, leastWait, defaultWait, windowFits, timesFit, waitFits, accepted}
+use Rattle.limits.specs.Questions.{pick, firstNo}
 use Rattle.limits.specs.Cells.{legalCell}
 use Rattle.limits.specs.Ring.{distance, step}
 use Rattle.limits.specs.Tables.{remove, age}
@@ -21,21 +25,29 @@ use Rattle.unbounded.specs.Lists as unbounded
 use Rattle.events.specs.Rules.{stepped}
 use Rattle.lists.specs.Runs as built
 use Rattle.events.specs.View.{linkState}
-use Rattle.cases.specs.Cases.{Holds, table, Every}
+use Rattle.cases.specs.Cases.{Holds, table, Every, limits, unboundedEnds, builtEnds, eventsF, eventsH}
 
 infixr 4 _then_
 -- the first case holds, then the others
 _then_ : {A B : Type 0} → A → B → A × B
 a then b = (a, b)
 
-pub cases : Every Holds table
+-- f w is x, since f is x at each of 1 to 32. One `refl` shows that, so no w needs a line of its own.
+for-each : {w : ℕ} → 1 ≤ w → w ≤ 32 → {A : Type 0} (f : ℕ → A) {x : A} → tab 32 (λ i. f (i + 1)) ≡ replicate 32 x → f w ≡ x
+for-each {w} some most f {x} e =
+    ap f {x = w} {y = w - 1 + 1} (omega arith)
+    ∙ sym (getD-tab 32 (λ i. f (i + 1)) (w - 1) x (omega arith))
+    ∙ ap (λ xs. getD xs (w - 1) x) e
+    ∙ getD-replicate 32 (w - 1) x x (omega arith)
+
+pub cases : (w : ℕ) → 1 ≤ w → w ≤ 32 → Every Holds (table w)
 unfolding pick all tab leading joined legalCell distance step remove age event leastWait defaultWait windowFits timesFit waitFits accepted at after unbounded.answers unbounded.afterAll built.answers built.afterAll built.next built.continued stepped linkState messages dataMessages replyMessages matState padState slotAt ready mat.sending mat.resending mat.marked mat.passing mat.ticked pad.arrival pad.replying pad.ticked
-cases =
+cases w some most =
     -- A
-    (refl, refl)
+    (for-each some most (λ v. firstNo (limitsQuestions (limits v 0))) refl, refl)
     -- B
-    then refl
-    then (refl, refl)
+    then for-each some most (λ v. firstNo (limitsQuestions (limits v 3))) refl
+    then (for-each some most (λ v. firstNo (limitsQuestions (limits v 4))) refl, refl)
     -- C
     then refl
     then refl
@@ -48,11 +60,11 @@ cases =
     -- E
     then (refl, refl)
     -- F
-    then (refl, refl)
+    then (for-each some most (λ v. unboundedEnds v eventsF) refl, for-each some most (λ v. builtEnds v eventsF) refl)
     -- G
     then (refl, refl)
     -- H
-    then (refl, refl)
+    then (for-each some most (λ v. unboundedEnds v eventsH) refl, for-each some most (λ v. builtEnds v eventsH) refl)
     -- I
     then (refl, refl)
     then (refl, refl)

@@ -9,10 +9,10 @@ use Rattle.limits.specs.declared.Limits.{Limits}
 use Rattle.limits.specs.Lists.{tab}
 use Rattle.limits.specs.Limits.{limitsQuestions, accepted}
 use Rattle.limits.specs.Questions.{firstNo}
-use Rattle.limits.specs.Tables.{Message, Reply, span}
+use Rattle.limits.specs.Tables.{Message, Reply, span, noReply}
 use Rattle.limits.specs.Events.{events}
 use Rattle.mat.specs.Window.{outstanding}
-use Rattle.pad.specs.Window.{Slot, empty, full, PadState, noReply}
+use Rattle.pad.specs.Window.{Slot, empty, full, PadState}
 use Rattle.pad.specs.Rules.{Arrival, arrival}
 use Rattle.frames.specs.declared.ReplyFrame.{ReplyFrame}
 use Rattle.frames.specs.Layout.{reading}
@@ -76,7 +76,7 @@ arrives w wanted n = arrival (limits w 4) (padWith w wanted (noneHeld w)) (recor
 -- A new row is held in the slot of its distance from wanted. An old one is replied to by itself and changes nothing.
 abbrev pub Means : ℕ → ℕ → ℕ → Row → Type 0
 Means w wanted n (new m) =
-    (arrives w wanted n ≡ record { state = padWith w wanted (set (noneHeld w) (m - wanted) (full 1 [])); old = false; reply = noReply })
+    (arrives w wanted n ≡ record { state = padWith w wanted (set (noneHeld w) (m - wanted) (full 1 [])); old = false; reply = noReply .body })
     × (m % (2 * w) ≡ n)
     × ((leb wanted m && ltb m (wanted + w)) ≡ true)
 Means w wanted n (old m) =
@@ -162,16 +162,23 @@ eventsE =
     1 ∷ 0 ∷ 1 ∷ 0 ∷ 3 ∷ 0 ∷ 4 ∷ 0 ∷ 3 ∷ 0 ∷ 4 ∷ 0 ∷ 5 ∷ 0 ∷ 5 ∷ 0
     ∷ 1 ∷ 0 ∷ 6 ∷ 0 ∷ 1 ∷ 0 ∷ 3 ∷ 0 ∷ 8 ∷ 4 ∷ 2 ∷ 0 ∷ 3 ∷ 0 ∷ 4 ∷ 0 ∷ []
 
+abbrev pub eventsF : List ℕ
+eventsF = 1 ∷ 0 ∷ 8 ∷ 3 ∷ 2 ∷ 0 ∷ 8 ∷ 1 ∷ 2 ∷ 0 ∷ []
+
+abbrev pub eventsH : List ℕ
+eventsH = 1 ∷ 0 ∷ 8 ∷ 1 ∷ 3 ∷ 0 ∷ []
+
 abbrev pub eventsI : List ℕ
 eventsI = 1 ∷ 0 ∷ 1 ∷ 0 ∷ 3 ∷ 0 ∷ 4 ∷ 0 ∷ 3 ∷ 0 ∷ 4 ∷ 0 ∷ 5 ∷ 1 ∷ []
 
-abbrev pub table : List Case
-table =
+-- A, B, F and H name no window: they stand with w, and the others with the number that they name.
+abbrev pub table : ℕ → List Case
+table w =
     -- A
-    opening 1 0 (done 4)
+    opening w 0 (done 4)
     -- B
-    ∷ opening 1 3 (refused 3)
-    ∷ opening 1 4 (done 4)
+    ∷ opening w 3 (refused 3)
+    ∷ opening w 4 (done 4)
     -- C
     ∷ opening 0 4 (refused 1)
     ∷ opening 33 4 (refused 1)
@@ -185,13 +192,13 @@ table =
     ∷ list 2 eventsE
     (record { answers = replicate 16 0; sent = 4; acknowledged = 2; recorded = 3; outstanding = 2; replies = replyOf 2 2 1 ∷ []; held = 3 ∷ [] })
     -- F
-    ∷ list 2 (1 ∷ 0 ∷ 8 ∷ 3 ∷ 2 ∷ 0 ∷ 8 ∷ 1 ∷ 2 ∷ 0 ∷ [])
+    ∷ list w eventsF
     (record { answers = 0 ∷ 0 ∷ 16 ∷ 0 ∷ 0 ∷ []; sent = 1; acknowledged = 0; recorded = 0; outstanding = 1; replies = []; held = [] })
     -- G
     ∷ list 1 (1 ∷ 0 ∷ 1 ∷ 0 ∷ [])
     (record { answers = 0 ∷ 10 ∷ []; sent = 1; acknowledged = 0; recorded = 0; outstanding = 1; replies = []; held = [] })
     -- H
-    ∷ list 2 (1 ∷ 0 ∷ 8 ∷ 1 ∷ 3 ∷ 0 ∷ [])
+    ∷ list w eventsH
     (record { answers = 0 ∷ 0 ∷ 17 ∷ []; sent = 1; acknowledged = 0; recorded = 0; outstanding = 1; replies = []; held = [] })
     -- I: up to 5 1, and on to 2 1 and 5 0
     ∷ list 2 eventsI

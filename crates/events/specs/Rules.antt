@@ -3,17 +3,15 @@
 use Prim.Native.Nat.{ℕ}
 use mathlib.Core.Bool.{false, not, _||_}
 use mathlib.Core.List.{List, [], _∷_, _++_}
-use lib.Dec.{eqb, ltb}
+use lib.Dec.{eqb}
 use lib.ListN.{length, getD}
 use Rattle.limits.specs.Questions.{pick, Question, ask, firstNo}
-use Rattle.limits.specs.Tables.{Message, Data, Reply, capacity, put, remove, age}
+use Rattle.limits.specs.Tables.{Message, Data, Reply, hasRoom, put, remove, age, noData, noReply}
 use Rattle.limits.specs.Events.{Event, unknown, misfit, send, resend, arriveData, reply, arriveReply, loseData, loseReply, tick}
 use Rattle.mat.specs.Rules as mat
 use Rattle.pad.specs.Window.{PadState}
 use Rattle.pad.specs.Rules as pad
 use Rattle.air.specs.Rules.{roomQuestions, placeQuestions}
-use Rattle.air.specs.Data.{noData}
-use Rattle.air.specs.Replies.{noReply}
 use Rattle.events.specs.State.{LinkState, Moved, oneSent, acknowledgedBy, recordedBy, unmoved}
 
 abbrev pub dataAt : LinkState → ℕ → Data
@@ -32,7 +30,7 @@ questions supply space s misfit = ask 9 false ∷ []
 questions supply space s send = mat.sendQuestions (s .limits) (s .mat) supply ++ roomQuestions 13 (s .datas)
 questions supply space s (resend k) = mat.resendQuestions (s .limits) (s .mat) k ++ roomQuestions 13 (s .datas)
 questions supply space s (arriveData p) =
-    placeQuestions p (s .datas) ++ (ask 18 (not (arrivalAt s p .old) || ltb (length (s .replies)) capacity) ∷ [])
+    placeQuestions p (s .datas) ++ (ask 18 (not (arrivalAt s p .old) || hasRoom (s .replies)) ∷ [])
 questions supply space s reply = pad.replyQuestions (s .pad) space ++ roomQuestions 18 (s .replies)
 questions supply space s (arriveReply p) = placeQuestions p (s .replies) ++ mat.acknowledgeQuestions (s .limits) (s .mat) (replyAt s p)
 questions supply space s (loseData p) = placeQuestions p (s .datas)

@@ -9,7 +9,7 @@ use Rattle.limits.specs.Cells.{legalCell}
 use Rattle.limits.specs.Limits.{windowFits}
 use Rattle.frames.specs.Layout.{dataRead}
 use Rattle.frames.specs.Rules.{readQuestions}
-use Rattle.frames.proofs.Theorems.{ReadAs}
+use Rattle.frames.specs.Meanings.{ReadAs}
 
 -- a data frame: its 16 cells are the two in front and fourteen more
 abbrev dataFrame : ℕ → ℕ → ℕ → List ℕ → List ℕ

@@ -16,16 +16,12 @@ use Rattle.frames.specs.declared.DataFrame.{DataFrame}
 use Rattle.frames.specs.declared.ReplyFrame.{ReplyFrame}
 use Rattle.frames.specs.Layout.{byte, cellAt, cellBytes, dataBytes, replyBytes, dataInto, replyInto, dataOf, replyOf, isData, isReply, Reading, reading, dataRead, replyRead}
 use Rattle.frames.specs.Rules.{dataQuestions, replyQuestions, sizeOf, valueQuestions, readQuestions, writeDataQuestions, writeReplyQuestions}
+use Rattle.frames.specs.Meanings.{Bytes, ReadAs, Readable, bytesOf}
 use Rattle.limits.proofs.Laws.Questions.{passed-first, front-passed}
 use Rattle.frames.proofs.Laws.Cells.{length-cells}
 use Rattle.frames.proofs.Laws.Values.{data-fits, data-legal, reply-fits}
 use Rattle.frames.proofs.Laws.Reading.{Kind, data-kind, reply-kind, right-length, accepted-kind}
-use Rattle.frames.proofs.Laws.Bytes.{Bytes, cells-again, data-again, reply-again, none-small, cons-small, four-small, cells-small}
-
--- read accepts the bytes, and gives r
-pub record ReadAs (bytes : List ℕ) (r : Reading) : Type 0 where
-  pub accepted : firstNo (readQuestions bytes) ≡ 0
-  pub means : reading bytes ≡ r
+use Rattle.frames.proofs.Laws.Bytes.{cells-again, data-again, reply-again, none-small, cons-small, four-small, cells-small}
 
 -- the layout alone: a frame's values stand in its bytes
 pub length-data : (f : DataFrame) → length (f .row) ≡ 16 → length (dataBytes f) ≡ 36
@@ -88,10 +84,6 @@ some-kind bytes e d =
     rw d at (and-right (leb 1 (length bytes)) (isData bytes || isReply bytes)
     (passed-first 22 (leb 1 (length bytes) && (isData bytes || isReply bytes)) (ask 23 (eqb (length bytes) (sizeOf bytes)) ∷ valueQuestions bytes) refl e .0))
 
--- the bytes that write makes of what was read
-abbrev pub bytesOf : Reading → List ℕ
-bytesOf r = pick (eqb (r .kind) 1) (dataBytes (r .dataframe)) (replyBytes (r .replyframe))
-
 pub write-read : (bytes : List ℕ) → Bytes bytes → firstNo (readQuestions bytes) ≡ 0 → bytesOf (reading bytes) ≡ bytes
 unfolding pick
 write-read bytes small e =
@@ -114,11 +106,6 @@ pub not-data-and-reply : (f : DataFrame) (g : ReplyFrame) → dataBytes f ≡ re
 not-data-and-reply f g e = let p = ap (λ s. byte s 0) e in omega arith
 
 -- The values that write accepts are exactly those that read can give.
-pub record Readable (r : Reading) : Type 0 where
-  pub bytes : List ℕ
-  pub small : Bytes bytes
-  pub read : ReadAs bytes r
-
 pub written-data-is-read : (f : DataFrame) → length (f .row) ≡ 16 → firstNo (dataQuestions f) ≡ 0 → Readable (dataRead f)
 written-data-is-read f l e =
     let h = data-fits f e in

@@ -53,20 +53,20 @@ pub record Reading : Type 0 where
   pub dataframe : DataFrame
   pub replyframe : ReplyFrame
 
-abbrev pub noData : DataFrame
-noData = record { life = 0; window = 0; number = 0; row = replicate 16 0 }
+abbrev pub noDataFrame : DataFrame
+noDataFrame = record { life = 0; window = 0; number = 0; row = replicate 16 0 }
 
-abbrev pub noReply : ReplyFrame
-noReply = record { life = 0; window = 0; first = 0; last = 0 }
+abbrev pub noReplyFrame : ReplyFrame
+noReplyFrame = record { life = 0; window = 0; first = 0; last = 0 }
 
 abbrev pub nothingRead : Reading
-nothingRead = record { kind = 0; dataframe = noData; replyframe = noReply }
+nothingRead = record { kind = 0; dataframe = noDataFrame; replyframe = noReplyFrame }
 
 abbrev pub dataRead : DataFrame → Reading
-dataRead f = record { kind = 1; dataframe = f; replyframe = noReply }
+dataRead f = record { kind = 1; dataframe = f; replyframe = noReplyFrame }
 
 abbrev pub replyRead : ReplyFrame → Reading
-replyRead f = record { kind = 2; dataframe = noData; replyframe = f }
+replyRead f = record { kind = 2; dataframe = noDataFrame; replyframe = f }
 
 abbrev pub reading : List ℕ → Reading
 reading bytes = pick (isData bytes) (dataRead (dataOf bytes)) (replyRead (replyOf bytes))

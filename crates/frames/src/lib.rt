@@ -15,8 +15,8 @@ ghost use Rattle.frames.specs.Layout.{
   dataOf,
   replyOf,
   reading,
-  noData,
-  noReply,
+  noDataFrame,
+  noReplyFrame,
 };
 ghost use Rattle.frames.specs.Rules.{
   frameQuestions,
@@ -166,7 +166,7 @@ fn reply_of(bytes: &[u8]) -> ReplyFrame
 }
 
 fn no_data() -> DataFrame
-    ensures { λ r. ⌜ r ≡ noData ⌝ }
+    ensures { λ r. ⌜ r ≡ noDataFrame ⌝ }
 {
     DataFrame {
         life: 0,
@@ -177,7 +177,7 @@ fn no_data() -> DataFrame
 }
 
 fn no_reply() -> ReplyFrame
-    ensures { λ r. ⌜ r ≡ noReply ⌝ }
+    ensures { λ r. ⌜ r ≡ noReplyFrame ⌝ }
 {
     ReplyFrame {
         life: 0,
@@ -188,7 +188,7 @@ fn no_reply() -> ReplyFrame
 }
 
 fn refused(answer: Answer) -> FrameRead
-    ensures { λ r. ⌜ r ≡ record { answer = answer; kind = 0; dataframe = noData; replyframe = noReply } ⌝ }
+    ensures { λ r. ⌜ r ≡ record { answer = answer; kind = 0; dataframe = noDataFrame; replyframe = noReplyFrame } ⌝ }
 {
     FrameRead {
         answer,
@@ -309,6 +309,12 @@ fn put_reply(f: ReplyFrame, buffer: &mut [u8])
     buffer[4] = f.last as u8;
 }
 
+fn not_written(answer: Answer) -> Written
+    ensures { λ r. ⌜ r ≡ record { answer = answer; count = 0 } ⌝ }
+{
+    Written { answer, count: 0 }
+}
+
 // 24, 25, 26, 12, 28.
 pub fn write_data(f: DataFrame, buffer: &mut [u8]) -> Written
     ensures { λ r. ⌜ WriteCall (writeDataQuestions f (now (buffer .entry)))
@@ -316,7 +322,7 @@ pub fn write_data(f: DataFrame, buffer: &mut [u8]) -> Written
 {
     let answer = data_answer(f);
     let Answer::Done = answer else {
-        return Written { answer, count: 0 };
+        return not_written(answer);
     };
     if 36 <= buffer.len() {
         put_data(f, buffer);
@@ -325,10 +331,7 @@ pub fn write_data(f: DataFrame, buffer: &mut [u8]) -> Written
             count: 36,
         }
     } else {
-        Written {
-            answer: Answer::ShortBuffer,
-            count: 0,
-        }
+        not_written(Answer::ShortBuffer)
     }
 }
 
@@ -339,7 +342,7 @@ pub fn write_reply(f: ReplyFrame, buffer: &mut [u8]) -> Written
 {
     let answer = reply_answer(f);
     let Answer::Done = answer else {
-        return Written { answer, count: 0 };
+        return not_written(answer);
     };
     if 5 <= buffer.len() {
         put_reply(f, buffer);
@@ -348,9 +351,6 @@ pub fn write_reply(f: ReplyFrame, buffer: &mut [u8]) -> Written
             count: 5,
         }
     } else {
-        Written {
-            answer: Answer::ShortBuffer,
-            count: 0,
-        }
+        not_written(Answer::ShortBuffer)
     }
 }

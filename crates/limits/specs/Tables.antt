@@ -3,6 +3,7 @@ use Prim.Native.Nat.{ℕ, zero, suc, _-_, _*_, _+_}
 use mathlib.Core.Bool.{Bool, _&&_}
 use mathlib.Core.List.{List, [], _∷_, _++_}
 use lib.Dec.{leb, ltb}
+use lib.ListN.{length, replicate}
 use Rattle.limits.specs.declared.Limits.{Limits}
 use Rattle.limits.specs.Questions.{pick}
 use Rattle.limits.specs.Cells.{legalRow}
@@ -23,8 +24,19 @@ pub record Reply : Type 0 where
   pub first : ℕ
   pub last : ℕ
 
+-- what stands for a message where there is none
+abbrev pub noData : Message Data
+noData = record { body = record { number = 0; row = replicate 16 0 }; life = 0 }
+
+abbrev pub noReply : Message Reply
+noReply = record { body = record { first = 0; last = 0 }; life = 0 }
+
 abbrev pub capacity : ℕ
 capacity = 32
+
+-- whether a message more finds a place
+abbrev pub hasRoom : {A : Type 0} → List A → Bool
+hasRoom ms = ltb (length ms) capacity
 
 abbrev pub put : {A : Type 0} → A → List A → List A
 put m ms = ms ++ (m ∷ [])

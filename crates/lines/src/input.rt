@@ -1,4 +1,4 @@
-// Inner: called by the trial. The parts of its input: question 29, the limits, the rows.
+// Inner: called by report. The parts of the trial's input: question 29, the limits, the rows.
 ghost use mathlib.Core.Path.{_≡_};
 ghost use Prim.Native.Nat.{_<_, _≤_};
 ghost use Rattle.limits.specs.Lists.{tab};

@@ -1,3 +1,3 @@
-// Inner: called by the trial. Its input taken apart, and the text that it prints.
+// Inner: called by report. The trial's input taken apart, and the text that it prints.
 pub mod input;
 pub mod text;

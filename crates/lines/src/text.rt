@@ -1,4 +1,4 @@
-// Inner: called by the trial. Each function writes at a place of a buffer that has room, and gives the place behind.
+// Inner: called by report. Each function writes at a place of a buffer that has room, and gives the place behind.
 ghost use mathlib.Core.Path.{_≡_};
 ghost use Prim.Native.Nat.{_+_, _*_, _≤_, _<_};
 ghost use mathlib.Core.List.{_++_};

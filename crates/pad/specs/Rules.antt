@@ -8,8 +8,8 @@ use Rattle.limits.specs.declared.Limits.{Limits}
 use Rattle.limits.specs.Lists.{leading, joined}
 use Rattle.limits.specs.Questions.{pick, Question, ask}
 use Rattle.limits.specs.Ring.{distance, step}
-use Rattle.limits.specs.Tables.{Data, Reply}
-use Rattle.pad.specs.Window.{Slot, empty, full, PadState, ready, contents, noReply}
+use Rattle.limits.specs.Tables.{Data, Reply, noReply}
+use Rattle.pad.specs.Window.{Slot, empty, full, PadState, ready, contents}
 
 -- What an arrival gives: the state, and where the row was an old one, the reply to put.
 pub record Arrival : Type 0 where
@@ -29,11 +29,11 @@ holding l s x =
 unfoldable pub arrival : Limits → PadState → Data → Arrival
 arrival l s x =
     pick (ltb (distance (2 * l .window) (s .wanted) (x .number)) (l .window))
-    (record { state = holding l s x; old = false; reply = noReply })
+    (record { state = holding l s x; old = false; reply = noReply .body })
     (record { state = s; old = true; reply = record { first = x .number; last = x .number } })
 
 abbrev pub noArrival : PadState → Arrival
-noArrival s = record { state = s; old = false; reply = noReply }
+noArrival s = record { state = s; old = false; reply = noReply .body }
 
 -- how many rows from wanted on are ready without a break
 abbrev pub run : PadState → ℕ
@@ -44,7 +44,7 @@ runQuestions s = ask 20 (ltb 0 (run s)) ∷ []
 
 -- `space` is how many cells the record has left
 abbrev pub replyQuestions : PadState → ℕ → List Question
-replyQuestions s space = ask 20 (ltb 0 (run s)) ∷ ask 21 (leb (16 * run s) space) ∷ []
+replyQuestions s space = runQuestions s ++ (ask 21 (leb (16 * run s) space) ∷ [])
 
 -- What a reply gives: the state, the rows recorded, the reply to put and the record.
 pub record Replying : Type 0 where
@@ -64,7 +64,7 @@ replying l s buffer =
     }
 
 abbrev pub notReplying : PadState → List ℕ → Replying
-notReplying s buffer = record { state = s; count = 0; reply = noReply; buffer = buffer }
+notReplying s buffer = record { state = s; count = 0; reply = noReply .body; buffer = buffer }
 
 abbrev pub slotFalls : ℕ → Slot → Slot
 slotFalls d empty = empty

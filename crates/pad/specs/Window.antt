@@ -3,7 +3,6 @@ use Prim.Native.Nat.{ℕ}
 use mathlib.Core.Bool.{Bool, false}
 use mathlib.Core.List.{List, []}
 use lib.Dec.{ltb}
-use Rattle.limits.specs.Tables.{Reply}
 
 -- a row of the window: not held, or held with its reply timer and its cells
 pub data Slot : Type 0 where
@@ -23,6 +22,3 @@ ready (full timer row) = ltb 0 timer
 abbrev pub contents : Slot → List ℕ
 contents empty = []
 contents (full timer row) = row
-
-abbrev pub noReply : Reply
-noReply = record { first = 0; last = 0 }

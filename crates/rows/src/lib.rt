@@ -64,13 +64,13 @@ pub fn legal_cells(cells: &[u16], from: usize, to: usize) -> bool
     ensures { λ r. ⌜ r ≡ all legalCell (take (to - from) (drop from (now (cells .entry)))) ⌝ }
 {
     let count = to - from;
-    let mut good = true;
+    let mut over = 0u16;
     let mut i = 0;
     while i < count {
-        good = both(good, limits::cells::legal(cells[from + i]));
+        over = over | limits::cells::excess(cells[from + i]);
         i += 1;
     }
-    good
+    over == 0
 }
 
 pub fn legal_row(row: [u16; 16]) -> bool

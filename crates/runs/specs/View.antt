@@ -1,8 +1,11 @@
 -- What one event and a run promise of a link.
 use Prim.Native.Nat.{ℕ, _/_, _%_}
+use mathlib.Core.Path.{_≡_}
+use mathlib.Core.Bool.{true}
 use mathlib.Core.List.{List, [], _∷_, _++_}
 use lib.Dec.{eqb, leb}
-use lib.ListN.{length}
+use lib.ListN.{length, take}
+use Rattle.limits.specs.Lists.{all}
 use Rattle.limits.specs.Questions.{Question, ask, Called}
 use Rattle.limits.specs.Events.{event}
 use Rattle.events.specs.declared.Link.{Link}
@@ -10,7 +13,7 @@ use Rattle.events.specs.declared.Progress.{Progress}
 use Rattle.events.specs.State.{unmoved}
 use Rattle.events.specs.Rules.{questions, acted}
 use Rattle.events.specs.View.{linkState, soundLink, shown}
-use Rattle.lists.specs.View.{running}
+use Rattle.lists.specs.View.{refuses, running}
 
 abbrev pub wholeRows : List ℕ → List Question
 wholeRows supply = ask 6 (eqb (length supply % 16) 0) ∷ []
@@ -29,7 +32,8 @@ lentAsks bytes supply answerBuffer =
 abbrev pub lentQuestions : List ℕ → List ℕ → List ℕ → List Question
 lentQuestions bytes supply answerBuffer = lentAsks (length bytes) (length supply) (length answerBuffer)
 
-abbrev pub Ran : Link → List ℕ → List ℕ → List ℕ → List ℕ → List ℕ → List ℕ → Progress → Type 0
-Ran k bytes supply before after answersBefore answersAfter r =
-    Called (ask 4 (soundLink k) ∷ lentQuestions bytes supply answersBefore) (r .answer) (record { moved = shown r after; answers = answersAfter })
-    (running k bytes supply before answersBefore) (record { moved = unmoved (linkState k) before; answers = answersBefore }) soundLink k (r .link)
+-- The run: 4, 5, 6 and 7. Where every event was refused the link is as it was, its free parts too.
+pub record Ran (k : Link) (bytes supply before after answersBefore answersAfter : List ℕ) (r : Progress) : Type 0 where
+  pub called : Called (ask 4 (soundLink k) ∷ lentQuestions bytes supply answersBefore) (r .answer) (record { moved = shown r after; answers = answersAfter })
+      (running k bytes supply before answersBefore) (record { moved = unmoved (linkState k) before; answers = answersBefore }) soundLink k (r .link)
+  pub still : all refuses (take (length bytes / 2) answersAfter) ≡ true → r .link ≡ k

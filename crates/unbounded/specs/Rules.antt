@@ -8,7 +8,7 @@ use Rattle.limits.specs.declared.Limits.{Limits}
 use Rattle.limits.specs.Lists.{tab, leading, joined}
 use Rattle.limits.specs.Cells.{rowAt, legalRow}
 use Rattle.limits.specs.Questions.{pick, Question, ask, firstNo}
-use Rattle.limits.specs.Tables.{Message, Data, Reply, put, remove, age}
+use Rattle.limits.specs.Tables.{Message, Data, Reply, noData, noReply, put, remove, age}
 use Rattle.limits.specs.Events.{Event, unknown, misfit, send, resend, arriveData, reply, arriveReply, loseData, loseReply, tick}
 use Rattle.unbounded.specs.Ends.{Ends, at, ready, run}
 
@@ -126,10 +126,10 @@ later d s =
     (s .oldest) (s .next) (s .acknowledged) (λ m. s .resendTimer m - d) (s .keptRow)
 
 abbrev pub dataAt : Ends → ℕ → Data
-dataAt s p = getD (s .dataTable) p (record { body = record { number = 0; row = [] }; life = 0 }) .body
+dataAt s p = getD (s .dataTable) p noData .body
 
 abbrev pub replyAt : Ends → ℕ → Reply
-replyAt s p = getD (s .replyTable) p (record { body = record { first = 0; last = 0 }; life = 0 }) .body
+replyAt s p = getD (s .replyTable) p noReply .body
 
 -- what an event does that passed its questions
 abbrev pub act : Limits → List ℕ → Ends → Event → Ends

@@ -10,9 +10,8 @@ use Rattle.limits.specs.declared.Limits.{Limits}
 use Rattle.limits.specs.Lists.{tab, leading, all}
 use Rattle.limits.specs.Questions.{firstNo}
 use Rattle.limits.specs.Ring.{step}
-use Rattle.limits.specs.Tables.{span}
+use Rattle.limits.specs.Tables.{span, noReply}
 use Rattle.limits.specs.Events.{arriveReply}
-use Rattle.air.specs.Replies.{noReply}
 use Rattle.mat.specs.Window.{Kept, noRow}
 use Rattle.mat.specs.Rules.{startOf, marked, passing}
 use Rattle.events.specs.Rules as link

@@ -91,8 +91,8 @@ module _ (supply : List ℕ) (x : Line) (c : Made) (sound : soundLink (x .link) 
   unfolding continued
   follows-run bytes before m =
       record {
-        sound = m .keeps .stays sound;
-        not-4 = ap not4 (m .answers .number ∙ passes) ∙ run-not4 bytes (supplyLeft supply (shownLine x)) before;
+        sound = m .called .keeps .stays sound;
+        not-4 = ap not4 (m .called .answers .number ∙ passes) ∙ run-not4 bytes (supplyLeft supply (shownLine x)) before;
         moved = both .0;
         numbers = both .1;
       }
@@ -110,7 +110,7 @@ module _ (supply : List ℕ) (x : Line) (c : Made) (sound : soundLink (x .link) 
       both =
           run-moved supply (shownLine x) within (events bytes) (drop (length bytes / 2) before) before
           (eqb (firstNo (lentQuestions bytes supply before)) 0) (record { moved = shown (c .result) (c .buffer); answers = c .answers })
-          (m .answers .result
+          (m .called .answers .result
           ∙ ap
           (λ n. pick (eqb n 0) (running (x .link) bytes (supplyLeft supply (shownLine x)) (bufferLeft (shownLine x)) before)
           (record { moved = unmoved (linkState (x .link)) (bufferLeft (shownLine x)); answers = before }))

@@ -11,10 +11,10 @@ use Rattle.limits.specs.declared.Limits.{Limits}
 use Rattle.limits.specs.Lists.{tab, leading, joined}
 use Rattle.limits.specs.Questions.{pick}
 use Rattle.limits.specs.Ring.{distance}
-use Rattle.limits.specs.Tables.{Data}
+use Rattle.limits.specs.Tables.{Data, noReply}
 use Rattle.limits.proofs.Laws.Choice.{test, split, and-left, pick-yes, pick-no}
 use Rattle.limits.proofs.Laws.Lists.{length-tab, tab-ext, take-tab, set-tab, map-tab, leading-at, leading-end, leading-most, leading-agree}
-use Rattle.pad.specs.Window.{empty, full, ready, contents, noReply}
+use Rattle.pad.specs.Window.{empty, full, ready, contents}
 use Rattle.pad.specs.Rules as pad
 use Rattle.pad.proofs.Laws.Shifted.{shifted}
 use Rattle.unbounded.specs.Ends as ends
@@ -135,7 +135,7 @@ module _ (l : Limits) (s : Ends) (x : Data) where
   oldRow = record { state = padOf (l .window) s; old = true; reply = record { first = numberRead .number; last = numberRead .number } }
 
   abbrev pub newRow : pad.Arrival
-  newRow = record { state = padOf (l .window) (holding l s x); old = false; reply = noReply }
+  newRow = record { state = padOf (l .window) (holding l s x); old = false; reply = noReply .body }
 
   -- an arriving number is an old one modulo 2w just where it is an old one
   pub arrival-read : x .number < s .wanted + l .window → s .wanted ≤ x .number + l .window
@@ -145,7 +145,7 @@ module _ (l : Limits) (s : Ends) (x : Data) where
       split (s .wanted) (x .number)
       (λ h. let e = distance-modulo (2 * l .window) (s .wanted) (x .number) h (omega arith) in
       pick-yes _ _ _ _ (lt-ltb (distance (2 * l .window) (s .wanted % (2 * l .window)) (x .number % (2 * l .window))) (l .window) (omega arith))
-      (ap (λ p. record { state = p; old = false; reply = noReply }) (holding-read _ e h))
+      (ap (λ p. record { state = p; old = false; reply = noReply .body }) (holding-read _ e h))
       ∙ sym (pick-no _ _ _ _ (le-ltb (x .number) (s .wanted) h) refl))
       (λ h. let e = distance-modulo-back (2 * l .window) (s .wanted) (x .number) h (omega arith) in
       pick-no _ _ _ _ (le-ltb (distance (2 * l .window) (s .wanted % (2 * l .window)) (x .number % (2 * l .window))) (l .window) (omega arith))

@@ -10,7 +10,7 @@ use Rattle.limits.specs.declared.Limits.{Limits}
 use Rattle.limits.specs.declared.answer.Answer.the-variants.{Done, NoMessage}
 use Rattle.limits.specs.Answer.{numberOf}
 use Rattle.limits.specs.Limits.{soundLimits}
-use Rattle.limits.specs.Tables.{Message, Data, Reply, onBody, put, remove, age, soundData, soundReply}
+use Rattle.limits.specs.Tables.{Message, Data, Reply, onBody, put, remove, age, soundData, soundReply, noData, noReply}
 use Rattle.limits.proofs.Laws.Choice.{both}
 use Rattle.limits.proofs.Laws.Good.{good, in-between}
 use Rattle.limits.proofs.Laws.Mapped.{table-put, table-remove, table-age}
@@ -22,8 +22,8 @@ use Rattle.air.specs.declared.messages.DataMessage.{DataMessage}
 use Rattle.air.specs.declared.messages.ReplyMessage.{ReplyMessage}
 use Rattle.air.specs.Rules.{soundMessage, soundMessages}
 use Rattle.air.specs.Kinds.{dataOf, replyOf}
-use Rattle.air.specs.Data.{dataTable, dataMessages, soundDataMessage, soundDataTable, dataMessage, noData, DataHolds, DataFound}
-use Rattle.air.specs.Replies.{replyTable, replyMessages, soundReplyMessage, soundReplyTable, replyMessage, noReply, ReplyHolds, ReplyFound}
+use Rattle.air.specs.Data.{dataTable, dataMessages, soundDataMessage, soundDataTable, dataMessage, DataHolds, DataFound}
+use Rattle.air.specs.Replies.{replyTable, replyMessages, soundReplyMessage, soundReplyTable, replyMessage, ReplyHolds, ReplyFound}
 use Rattle.air.proofs.Laws.Sound.{place-passed, place-refused, put-sound, remove-sound, age-sound}
 use Rattle.air.proofs.Laws.Typed.{length-messages, length-data, length-replies, data-at, reply-at}
 

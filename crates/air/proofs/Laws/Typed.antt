@@ -12,7 +12,7 @@ use Rattle.limits.specs.declared.answer.Answer.{Answer}
 use Rattle.limits.specs.Limits.{soundLimits}
 use Rattle.limits.specs.Lists.{tab, all}
 use Rattle.limits.specs.Questions.{Question, ask, firstNo}
-use Rattle.limits.specs.Tables.{Message, Data, Reply, onBody, soundData, soundReply}
+use Rattle.limits.specs.Tables.{Message, Data, Reply, onBody, soundData, soundReply, noData, noReply}
 use Rattle.limits.proofs.Laws.Lists.{all-map, length-tab, getD-tab}
 use Rattle.limits.proofs.Laws.Promise.{called-read}
 use Rattle.limits.proofs.Laws.Mapped.{table-at}
@@ -27,8 +27,8 @@ use Rattle.air.specs.declared.lent.Kind.{Kind}
 use Rattle.air.specs.declared.lent.Kind.the-variants.{OfData, OfReplies}
 use Rattle.air.specs.Rules.{placeQuestions, soundMessage, soundMessages}
 use Rattle.air.specs.Kinds.{widthOf, lifeOf, dataOf, replyOf, soundWords, Lent, lent, carried, soundLent, LentCall}
-use Rattle.air.specs.Data.{dataTable, dataMessages, noData, soundDataTable, DataCall}
-use Rattle.air.specs.Replies.{replyTable, replyMessages, noReply, soundReplyTable, ReplyCall}
+use Rattle.air.specs.Data.{dataTable, dataMessages, soundDataTable, DataCall}
+use Rattle.air.specs.Replies.{replyTable, replyMessages, soundReplyTable, ReplyCall}
 
 pub length-messages : (width n : ℕ) (words : List ℕ) → length (messages width n words) ≡ n
 unfolding messages

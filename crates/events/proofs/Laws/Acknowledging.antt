@@ -6,7 +6,7 @@ use lib.ListN.{getD}
 use Rattle.limits.specs.Answer.{numberOf}
 use Rattle.limits.specs.Lists.{all}
 use Rattle.limits.specs.Questions.{firstNo}
-use Rattle.limits.specs.Tables.{Reply, remove}
+use Rattle.limits.specs.Tables.{Reply, remove, noReply}
 use Rattle.limits.specs.Events.{arriveReply}
 use Rattle.limits.proofs.Laws.Promise.{called-done, done-of, none-no}
 use Rattle.limits.proofs.Laws.Questions.{behind-passed}
@@ -18,7 +18,7 @@ use Rattle.air.specs.declared.replytable.ReplyTable.{ReplyTable}
 use Rattle.air.specs.declared.changes.FoundReply.{FoundReply}
 use Rattle.air.specs.Rules.{placeQuestions}
 use Rattle.air.specs.Data.{dataMessages}
-use Rattle.air.specs.Replies.{replyMessages, noReply, ReplyHolds, ReplyFound}
+use Rattle.air.specs.Replies.{replyMessages, ReplyHolds, ReplyFound}
 use Rattle.events.specs.declared.Link.{Link}
 use Rattle.events.specs.State.{acknowledgedBy}
 use Rattle.events.specs.View.{linkState, Moves}

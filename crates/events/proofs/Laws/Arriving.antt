@@ -9,7 +9,7 @@ use Rattle.limits.specs.Answer.{numberOf}
 use Rattle.limits.specs.Lists.{all}
 use Rattle.limits.specs.declared.answer.Answer.the-variants.{Done}
 use Rattle.limits.specs.Questions.{Question, ask, firstNo, Called}
-use Rattle.limits.specs.Tables.{Data, capacity}
+use Rattle.limits.specs.Tables.{Data, capacity, noData}
 use Rattle.limits.specs.Events.{arriveData}
 use Rattle.limits.proofs.Laws.Choice.{pick-yes, pick-no}
 use Rattle.limits.proofs.Laws.Promise.{called-as, called-done, done-of, none-no}
@@ -19,7 +19,7 @@ use Rattle.pad.specs.Rules.{Arrival, arrival}
 use Rattle.pad.specs.View.{padState, shownArrival, ArriveCall}
 use Rattle.air.specs.declared.changes.FoundData.{FoundData}
 use Rattle.air.specs.Rules.{placeQuestions, roomQuestions}
-use Rattle.air.specs.Data.{dataMessages, noData, DataFound}
+use Rattle.air.specs.Data.{dataMessages, DataFound}
 use Rattle.air.specs.Replies.{replyMessages}
 use Rattle.events.specs.declared.Link.{Link}
 use Rattle.events.specs.declared.Progress.{Progress}

@@ -11,7 +11,7 @@ use Rattle.limits.specs.Lists.{all}
 use Rattle.limits.specs.Answer.{numberOf}
 use Rattle.limits.specs.Questions.{firstNo}
 use Rattle.limits.specs.Limits.{between}
-use Rattle.limits.specs.Tables.{Message, capacity, soundData, soundReply}
+use Rattle.limits.specs.Tables.{Message, capacity, soundData, soundReply, noData, noReply}
 use Rattle.limits.proofs.Laws.Choice.{and-right}
 use Rattle.limits.proofs.Laws.Lists.{all-at}
 use Rattle.limits.proofs.Laws.Promise.{none-no, done-of}
@@ -21,8 +21,8 @@ use Rattle.air.specs.declared.changes.FoundData.{FoundData}
 use Rattle.air.specs.declared.replytable.ReplyTable.{ReplyTable}
 use Rattle.air.specs.declared.changes.FoundReply.{FoundReply}
 use Rattle.air.specs.Rules.{placeQuestions, soundMessage, soundMessages}
-use Rattle.air.specs.Data.{dataMessages, soundDataTable, noData, DataFound}
-use Rattle.air.specs.Replies.{replyMessages, soundReplyTable, noReply, ReplyFound}
+use Rattle.air.specs.Data.{dataMessages, soundDataTable, DataFound}
+use Rattle.air.specs.Replies.{replyMessages, soundReplyTable, ReplyFound}
 
 found : {A : Type 0} (p : ℕ) (ms : List A) → firstNo (placeQuestions p ms) ≡ 0 → p < length ms
 unfolding all

@@ -46,11 +46,11 @@ returns c = let a = c .before .before .before .before .before .before .before .b
     record {
       progress = progressOf (limitsAt (a .head .now)) after (u .result);
       promise = promise;
-      leaves = leaves-kept s after (u .result) _ (c .before .before .counts-of .ensures) _ _ _ _ _ promise (c .number .ensures) (not-done (u .result .answer) (c .before .match .keys2));
+      leaves = leaves-kept s after (u .result) _ (c .before .before .counts-of .ensures) _ _ _ _ _ (promise .called) (c .number .ensures) (not-done (u .result .answer) (c .before .match .keys2));
     }
 
 head-of-requires : tie.Need-head-of-requires
-head-of-requires c κs = let u = c .before .before .before .before .before .before .before .before .before .lent-run in let after = (arrays (u .last .1 .1 .0) (u .last .1 .1 .1 .0) (u .last .1 .1 .1 .1 .0) (u .last .1 .1 .1 .1 .1 .0) (u .last .1 .1 .1 .1 .1 .1 .0) (u .last .1 .1 .1 .1 .1 .1 .1 .0) (u .last .1 .1 .1 .1 .1 .1 .1 .1 .0) (u .last .1 .1 .1 .1 .1 .1 .1 .1 .1 .0)) in small (c .before .before .before .before .before .before .before .before .before .before .before .before .before .before .before .before .before .before .before .before .before .before .before .before .before .limits-of .result) (u .result .numbers) after (done-sound _ _ (progressOf (c .before .before .before .before .before .before .before .before .before .before .before .before .before .before .before .before .before .before .before .before .before .before .before .before .before .limits-of .result) after (u .result)) _ _ _ (u .ensures) (ap numberOf (c .before .enum-told .given .1)))
+head-of-requires c κs = let u = c .before .before .before .before .before .before .before .before .before .lent-run in let after = (arrays (u .last .1 .1 .0) (u .last .1 .1 .1 .0) (u .last .1 .1 .1 .1 .0) (u .last .1 .1 .1 .1 .1 .0) (u .last .1 .1 .1 .1 .1 .1 .0) (u .last .1 .1 .1 .1 .1 .1 .1 .0) (u .last .1 .1 .1 .1 .1 .1 .1 .1 .0) (u .last .1 .1 .1 .1 .1 .1 .1 .1 .1 .0)) in small (c .before .before .before .before .before .before .before .before .before .before .before .before .before .before .before .before .before .before .before .before .before .before .before .before .before .limits-of .result) (u .result .numbers) after (done-sound _ _ (progressOf (c .before .before .before .before .before .before .before .before .before .before .before .before .before .before .before .before .before .before .before .before .before .before .before .before .before .limits-of .result) after (u .result)) _ _ _ (u .ensures .called) (ap numberOf (c .before .enum-told .given .1)))
 
 bits-of-requires : tie.Need-bits-of-requires
 bits-of-requires c κs = search needs

@@ -12,11 +12,8 @@ use Rattle.limits.specs.Cells.{legalCell, legalRow}
 use Rattle.limits.proofs.Laws.Choice.{and-left, and-right, split}
 use Rattle.limits.proofs.Laws.Lists.{is-tab, length-tab, getD-tab}
 use Rattle.frames.specs.Layout.{byte, cellAt, cellBytes}
+use Rattle.frames.specs.Meanings.{Bytes}
 use Rattle.frames.proofs.Laws.Cells.{length-cells, low-byte, high-byte}
-
--- what a `&[u8]` holds
-abbrev pub Bytes : List ℕ → Type 0
-Bytes bytes = (i : ℕ) → byte bytes i < 256
 
 -- cells that were written, read again behind four bytes
 pub cells-again : (row : List ℕ) (a b c d : ℕ) → length row ≡ 16 → tab 16 (cellAt (a ∷ b ∷ c ∷ d ∷ cellBytes row)) ≡ row

@@ -14,7 +14,7 @@ use Rattle.limits.specs.Questions.{Question, ask, firstNo, Answers}
 use Rattle.limits.proofs.Laws.Promise.{answers-done, answers-refused}
 use Rattle.frames.specs.declared.FrameRead.{FrameRead}
 use Rattle.limits.proofs.Laws.Choice.{pick-yes, pick-no, both, and-no-left, and-no-right}
-use Rattle.frames.specs.Layout.{byte, isData, isReply, dataOf, replyOf, Reading, reading, dataRead, replyRead, noData, noReply, nothingRead}
+use Rattle.frames.specs.Layout.{byte, isData, isReply, dataOf, replyOf, Reading, reading, dataRead, replyRead, noDataFrame, noReplyFrame, nothingRead}
 use Rattle.frames.specs.Rules.{dataQuestions, replyQuestions, sizeOf, valueQuestions, readQuestions, ReadCall}
 use Rattle.limits.proofs.Laws.Questions.{passed-first}
 
@@ -100,7 +100,7 @@ shown-read : FrameRead → Reading
 shown-read x = record { kind = x .kind; dataframe = x .dataframe; replyframe = x .replyframe }
 
 pub read-refused : (qs : List Question) (done : Reading) (a : Answer) (r : FrameRead)
-    → r ≡ record { answer = a; kind = 0; dataframe = noData; replyframe = noReply } → numberOf a ≡ firstNo qs → eqb (numberOf a) 0 ≡ false → ReadCall qs done r
+    → r ≡ record { answer = a; kind = 0; dataframe = noDataFrame; replyframe = noReplyFrame } → numberOf a ≡ firstNo qs → eqb (numberOf a) 0 ≡ false → ReadCall qs done r
 unfolding shown-read
 read-refused qs done a r e first no-zero =
     answers-refused qs (r .answer) _ done nothingRead

@@ -16,11 +16,17 @@ reply-answer-requires c κs = search needs
 enum-told : tie.Need-enum-told
 enum-told c = search needs
 
+not-written-requires : tie.Need-not-written-requires
+not-written-requires c κs = search needs
+
 returns : tie.Need-returns
-returns c = let f = c .before .before .before .args .f in let b = c .before .before .before .args .buffer .now in write-refused (replyQuestions f) (reply-numbered f) 5 b (replyInto f b) (c .before .reply-answer .result) (c .before .reply-answer .ensures) (not-done (c .before .reply-answer .result) (c .match .keys2))
+returns c = let f = c .before .before .before .before .args .f in let b = c .before .before .before .before .args .buffer .now in rw (c .not-written .ensures) (write-refused (replyQuestions f) (reply-numbered f) 5 b (replyInto f b) (c .before .before .reply-answer .result) (c .before .before .reply-answer .ensures) (not-done (c .before .before .reply-answer .result) (c .before .match .keys2)))
 
 put-reply-requires : tie.Need-put-reply-requires
 put-reply-requires c κs = (sym (c .before .before .before .before .reply-answer .ensures) ∙ ap numberOf (c .before .before .enum-told .given .1), omega arith)
+
+not-written-requires-2 : tie.Need-not-written-requires-2
+not-written-requires-2 c κs = search needs
 
 same-length : tie.Need-same-length
 same-length c = search needs
@@ -29,7 +35,7 @@ returns-2 : tie.Need-returns-2
 returns-2 c = let f = c .before .before .before .before .before .before .before .before .before .args .f in let b = c .before .before .before .before .before .before .before .before .before .args .buffer .now in write-done (replyQuestions f) (reply-numbered f) 5 b (replyInto f b) _ (sym (ap numberOf (c .before .before .before .before .before .enum-told .given .1)) ∙ c .before .before .before .before .before .before .before .reply-answer .ensures) (omega arith) (c .before .before .put-reply .ensures)
 
 returns-3 : tie.Need-returns-3
-returns-3 c = let f = c .before .before .before .before .before .args .f in let b = c .before .before .before .before .before .args .buffer .now in write-short (replyQuestions f) (reply-numbered f) 5 b (replyInto f b) (sym (ap numberOf (c .before .enum-told .given .1)) ∙ c .before .before .before .reply-answer .ensures) (omega arith)
+returns-3 c = let f = c .before .before .before .before .before .before .args .f in let b = c .before .before .before .before .before .before .args .buffer .now in rw (c .not-written2 .ensures) (write-short (replyQuestions f) (reply-numbered f) 5 b (replyInto f b) (sym (ap numberOf (c .before .before .enum-told .given .1)) ∙ c .before .before .before .before .reply-answer .ensures) (omega arith))
 
 pub write-reply-spec : {M : Type 1} → statement M
 write-reply-spec =
@@ -37,8 +43,10 @@ write-reply-spec =
     (tie.spec
     reply-answer-requires
     enum-told
+    not-written-requires
     returns
     put-reply-requires
+    not-written-requires-2
     same-length
     returns-2
     returns-3)

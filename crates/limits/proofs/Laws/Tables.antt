@@ -1,16 +1,15 @@
 -- Laws on tables of messages whose elements are given by index.
 use Prim.Native.Nat.{ℕ, zero, suc, _+_, _-_, _≤_, _<_}
 use mathlib.Core.Path.{_≡_, refl, sym, _∙_, ap, ap₂}
-use mathlib.Core.Bool.{true}
-use mathlib.Core.List.{List, [], _∷_, _++_, append-nil, map}
+use mathlib.Core.List.{List, [], _∷_, _++_, append-nil}
 use native.Mathlib.Numerals.{add-one}
 use native.Mathlib.Omega.{arith}
-use lib.Dec.{leb, ltb}
-use borrow.Author.Tests.{le-leb, lt-leb, leb-true, leb-false, ltb-true}
+use lib.Dec.{leb}
+use borrow.Author.Tests.{le-leb, lt-leb}
 use lib.ListN.{length}
-use Rattle.limits.specs.Lists.{tab, all}
+use Rattle.limits.specs.Lists.{tab}
 use Rattle.limits.specs.Tables.{Message, put, remove, age, aged}
-use Rattle.limits.proofs.Laws.Choice.{split, test, pick-yes, pick-no, and-left, and-right}
+use Rattle.limits.proofs.Laws.Choice.{split, test, pick-yes, pick-no}
 use Rattle.limits.proofs.Laws.Lists.{length-tab, tab-more, tab-ext}
 
 module _ {A : Type 0} where
@@ -94,24 +93,3 @@ module _ {B : Type 0} (d : ℕ) where
       (λ j b. refl)
       (run n (omega arith))
       ∙ ap (λ m. age d (tab m f)) {x = i + n + 1} {y = i + suc n} (omega arith)
-
-  -- lives fall first, and then the messages with no life left go
-  pub age-lowered : (ms : List (Message B)) → age 0 (map (aged d) ms) ≡ age d ms
-  unfolding age
-  age-lowered [] = refl
-  age-lowered (m ∷ ms) =
-      test (leb (m .life) d)
-      (λ e. let h = leb-true (m .life) d e in pick-yes _ _ _ _ (le-leb (m .life - d) 0 (omega arith)) (age-lowered ms) ∙ sym (pick-yes _ _ _ _ e refl))
-      (λ e. let h = leb-false (m .life) d e in let z : m .life - d - 0 ≡ m .life - d = omega arith in
-      pick-no _ _ _ _ (lt-leb (m .life - d) 0 (omega arith))
-      (ap₂ (λ l xs. record { body = m .body; life = l } ∷ xs) z (age-lowered ms))
-      ∙ sym (pick-no _ _ _ _ e refl))
-
--- where every message has life left, none goes
-pub age-living : {B : Type 0} (ms : List (Message B)) → all (λ m. ltb 0 (m .life)) ms ≡ true → age 0 ms ≡ ms
-unfolding age all
-age-living [] e = refl
-age-living (m ∷ ms) e =
-    let h = ltb-true 0 (m .life) (and-left (ltb 0 (m .life)) _ e) in let z : m .life - 0 ≡ m .life = omega arith in
-    pick-no _ _ _ _ (lt-leb (m .life) 0 h)
-    (ap₂ (λ l xs. record { body = m .body; life = l } ∷ xs) z (age-living ms (and-right (ltb 0 (m .life)) _ e)))

@@ -6,6 +6,7 @@ use mathlib.Core.List.{List, []}
 use lib.Dec.{ltb}
 use lib.ListN.{length}
 use borrow.Author.Tests.{lt-ltb}
+use Rattle.limits.specs.Tables.{noReply}
 use Rattle.limits.specs.declared.Limits.{Limits}
 use Rattle.limits.specs.declared.answer.Answer.{Answer}
 use Rattle.limits.specs.declared.answer.Answer.the-variants.{Done}
@@ -14,7 +15,6 @@ use Rattle.limits.specs.Ring.{distance}
 use Rattle.limits.proofs.Laws.Choice.{pick-yes, pick-no}
 use Rattle.limits.proofs.Laws.Promise.{called-done}
 use Rattle.pad.specs.declared.Pad.{Pad}
-use Rattle.pad.specs.Window.{noReply}
 use Rattle.pad.specs.Rules.{holding, arrival, run, replyQuestions, replying}
 use Rattle.pad.specs.View.{padState, soundPad, ArriveCall, ReplyCall}
 use Rattle.pad.proofs.Laws.Refused.{reply-passes}
@@ -29,7 +29,7 @@ module _ (l : Limits) (p : Pad) (number : ℕ) (row : List ℕ) where
   arrive-new p' pad q h e =
       rw q
       (called-done _ _ _ _ _ refl _ _ _ refl
-      (ap (λ x. record { state = x; old = false; reply = noReply }) (e .1) ∙ sym (pick-yes _ _ _ _ (lt-ltb _ _ h) refl))
+      (ap (λ x. record { state = x; old = false; reply = noReply .body }) (e .1) ∙ sym (pick-yes _ _ _ _ (lt-ltb _ _ h) refl))
       (e .0))
 
   pub arrive-old : ltb (distance (2 * l .window) (p .wanted) number) (l .window) ≡ false

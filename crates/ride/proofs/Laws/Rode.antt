@@ -85,7 +85,7 @@ module _ (asked : Limits) (bytes supply before answersBefore : List ℕ) (o : Op
     -- where everything was lent as it must be
     module _ (e : eqb (lent bytes supply answersBefore) 0 ≡ true) where
       shows : _≡_ {A = Run} (record { moved = shown p after; answers = answersAfter }) (running (o .link) bytes supply before answersBefore)
-      shows = ran .answers .result ∙ pick-yes _ _ _ _ (ap (λ n. eqb n 0) run-asks ∙ e) refl
+      shows = ran .called .answers .result ∙ pick-yes _ _ _ _ (ap (λ n. eqb n 0) run-asks ∙ e) refl
 
       all-events : allEvents supply (made bytes answersBefore p after answersAfter ∷ []) ≡ events bytes
       all-events = all-of-one (eqb (lent bytes supply answersBefore) 0) (events bytes) e
@@ -126,12 +126,12 @@ module _ (asked : Limits) (bytes supply before answersBefore : List ℕ) (o : Op
         (record { counts = noCounts; buffer = before; answers = answersBefore })
     refused e =
         ap (λ (x : Run). record { counts = x .moved .counts; buffer = x .moved .buffer; answers = x .answers })
-        (ran .answers .result ∙ pick-no _ _ _ _ (ap (λ n. eqb n 0) run-asks ∙ e) refl)
+        (ran .called .answers .result ∙ pick-no _ _ _ _ (ap (λ n. eqb n 0) run-asks ∙ e) refl)
 
     pub rode-run : (r : Outcome) → r .answer ≡ p .answer → r .counts ≡ p .counts → Rode asked bytes supply before after answersBefore answersAfter r
     rode-run r a n =
         record {
-          number = ap numberOf a ∙ ran .answers .number ∙ run-asks ∙ sym ride-asks;
+          number = ap numberOf a ∙ ran .called .answers .number ∙ run-asks ∙ sym ride-asks;
           result =
               ap (λ (k : Counts). record { counts = k; buffer = after; answers = answersAfter }) n
               ∙ test (eqb (lent bytes supply answersBefore) 0)

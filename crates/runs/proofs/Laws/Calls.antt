@@ -4,7 +4,7 @@ use mathlib.Core.Path.{_≡_, refl, sym, _∙_, ap}
 use mathlib.Core.Bool.{Bool, true, false}
 use mathlib.Core.List.{List, [], _∷_, _++_}
 use lib.Dec.{eqb, leb}
-use lib.ListN.{length}
+use lib.ListN.{length, take}
 use borrow.Author.Tests.{eq-eqb, ne-eqb, le-leb, lt-leb, eqb-true, leb-true}
 use Rattle.limits.specs.declared.answer.Answer.{Answer}
 use Rattle.limits.specs.declared.answer.Answer.the-variants.{Unsound, PartialRow}
@@ -19,7 +19,7 @@ use Rattle.events.specs.declared.Link.{Link}
 use Rattle.events.specs.declared.Progress.{Progress}
 use Rattle.events.specs.Rules.{questions}
 use Rattle.events.specs.View.{linkState, soundLink, shown, Moves}
-use Rattle.lists.specs.View.{running}
+use Rattle.lists.specs.View.{refuses, running}
 use Rattle.runs.specs.View.{Stepped, Ran, wholeRows, lentAsks, lentQuestions}
 use Rattle.events.proofs.Laws.Stays.{Stayed, shown-stays, stays-refused}
 
@@ -55,8 +55,11 @@ module _ (k : Link) (bytes supply before answers : List ℕ) (r : Progress) wher
 
   run-refused : (a : Answer) → Stayed k a r → numberOf a ≡ firstNo asked → eqb (numberOf a) 0 ≡ false → Ran k bytes supply before before answers answers r
   run-refused a s e z =
-      called-refused asked _ _ _ _ (ap numberOf (s .0) ∙ e) _ _ _ (ap (λ x. eqb (numberOf x) 0) (s .0) ∙ z)
-      (ap (λ m. record { moved = m; answers = answers }) (shown-stays k a r before s)) (s .1)
+      record {
+        called = called-refused asked _ _ _ _ (ap numberOf (s .0) ∙ e) _ _ _ (ap (λ x. eqb (numberOf x) 0) (s .0) ∙ z)
+            (ap (λ m. record { moved = m; answers = answers }) (shown-stays k a r before s)) (s .1);
+        still = λ _. s .1;
+      }
 
   pub run-unsound : soundLink k ≡ false → Stayed k Unsound r → Ran k bytes supply before before answers answers r
   run-unsound e s = run-refused Unsound s (no-first 4 (soundLink k) (lentQuestions bytes supply answers) e) refl
@@ -68,9 +71,13 @@ module _ (k : Link) (bytes supply before answers : List ℕ) (r : Progress) wher
 
   pub run-done : (after answersAfter : List ℕ) → soundLink k ≡ true → numberOf (r .answer) ≡ firstNo (lentQuestions bytes supply answers) → numberOf (r .answer) ≡ 0
       → (soundLink (r .link) ≡ true) × (record { moved = shown r after; answers = answersAfter } ≡ running k bytes supply before answers)
+      → (all refuses (take (length bytes / 2) answersAfter) ≡ true → r .link ≡ k)
       → Ran k bytes supply before after answers answersAfter r
-  run-done after answersAfter e f z t =
-      called-done asked _ _ _ _ (no-later 4 (soundLink k) (lentQuestions bytes supply answers) _ e f) _ _ _ z (t .1) (t .0)
+  run-done after answersAfter e f z t same =
+      record {
+        called = called-done asked _ _ _ _ (no-later 4 (soundLink k) (lentQuestions bytes supply answers) _ e f) _ _ _ z (t .1) (t .0);
+        still = same;
+      }
 
 -- 5, 6 and 7, one after the other
 module _ (bytes supply answers : ℕ) where

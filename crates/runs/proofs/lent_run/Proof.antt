@@ -37,7 +37,7 @@ same-length-2 : tie.Need-same-length-2
 same-length-2 c = search needs
 
 returns-2 : tie.Need-returns-2
-returns-2 c = let s = c .before .before .before .before .before .before .before .before .before .before .before .before .before .before .before .before .before .before .before .before .before .before .before .before .before .before .before .before .before .before .before .before .before .before in let u = c .before .before .before .before .before .before .run-events in run-done (linkOf (s .args .l) (s .args .n) (arrays (s .args .marks .now) (s .args .mattimers .now) (s .args .matcells .now) (s .args .held .now) (s .args .padtimers .now) (s .args .padcells .now) (s .args .datas .now) (s .args .replies .now))) (s .args .events .now) (s .args .supply .now) (s .args .«record» .now) (s .args .answers .now) _ (u .last .1 .1 .1 .1 .1 .1 .1 .1 .1 .1 .1 .1 .0) (u .last .1 .1 .1 .1 .1 .1 .1 .1 .1 .1 .1 .1 .1 .0) (sym (c .before .before .before .before .before .before .before .before .before .before .before .before .before .before .before .before .before .before .before .before .before .lent-sound .ensures) ∙ c .before .before .before .before .before .before .before .before .before .before .before .before .before .before .before .before .before .before .before .before .if1 .taken) (c .before .before .before .before .before .before .before .before .before .before .before .before .before .before .before .before .before .before .before .lent-fits .ensures) (ap numberOf (c .before .before .before .before .before .before .before .before .before .before .before .before .before .before .before .before .before .enum-told .given .1)) (u .ensures .0, u .ensures .1)
+returns-2 c = let s = c .before .before .before .before .before .before .before .before .before .before .before .before .before .before .before .before .before .before .before .before .before .before .before .before .before .before .before .before .before .before .before .before .before .before in let u = c .before .before .before .before .before .before .run-events in run-done (linkOf (s .args .l) (s .args .n) (arrays (s .args .marks .now) (s .args .mattimers .now) (s .args .matcells .now) (s .args .held .now) (s .args .padtimers .now) (s .args .padcells .now) (s .args .datas .now) (s .args .replies .now))) (s .args .events .now) (s .args .supply .now) (s .args .«record» .now) (s .args .answers .now) _ (u .last .1 .1 .1 .1 .1 .1 .1 .1 .1 .1 .1 .1 .0) (u .last .1 .1 .1 .1 .1 .1 .1 .1 .1 .1 .1 .1 .1 .0) (sym (c .before .before .before .before .before .before .before .before .before .before .before .before .before .before .before .before .before .before .before .before .before .lent-sound .ensures) ∙ c .before .before .before .before .before .before .before .before .before .before .before .before .before .before .before .before .before .before .before .before .if1 .taken) (c .before .before .before .before .before .before .before .before .before .before .before .before .before .before .before .before .before .before .before .lent-fits .ensures) (ap numberOf (c .before .before .before .before .before .before .before .before .before .before .before .before .before .before .before .before .before .enum-told .given .1)) (u .ensures .0, u .ensures .1) (u .ensures .3)
 
 returns-3 : tie.Need-returns-3
 returns-3 c = let s = c .before .before .before .before .before .before .before .before .before .before .before .before .before .before .before in run-unsound (linkOf (s .args .l) (s .args .n) (arrays (s .args .marks .now) (s .args .mattimers .now) (s .args .matcells .now) (s .args .held .now) (s .args .padtimers .now) (s .args .padcells .now) (s .args .datas .now) (s .args .replies .now))) (s .args .events .now) (s .args .supply .now) (s .args .«record» .now) (s .args .answers .now) _ (sym (c .before .before .lent-sound .ensures) ∙ c .before .if1 .left) (stayed-at _ _ _ _ _ (c .stays2 .ensures))

@@ -12,7 +12,7 @@ use Rattle.limits.specs.declared.Limits.{Limits}
 use Rattle.limits.specs.Lists.{tab, joined}
 use Rattle.limits.specs.Cells.{rowAt}
 use Rattle.limits.specs.Questions.{firstNo}
-use Rattle.limits.specs.Tables.{Message, Data, Reply, remove}
+use Rattle.limits.specs.Tables.{Message, Data, Reply, remove, noData}
 use Rattle.limits.specs.Events.{Event, unknown, misfit, send, resend, arriveData, reply, arriveReply, loseData, loseReply, tick}
 use Rattle.limits.proofs.Laws.Lists.{joined-append}
 use Rattle.limits.proofs.Laws.Choice.{test, pick-cases, and-left, clash}
@@ -20,7 +20,7 @@ use Rattle.limits.proofs.Laws.Good.{Good}
 use Rattle.unbounded.specs.Ends.{Ends, fresh, at, run}
 use Rattle.unbounded.specs.Rules.{questions, act, after, sent, withTables, holding, arrived, recording, acknowledging, later, dataAt, replyAt}
 use Rattle.unbounded.proofs.Laws.Count.{All, all-none, all-put, all-remove, all-at, all-age}
-use Rattle.unbounded.proofs.Laws.Invariant.{Base, Inv, noData, asked}
+use Rattle.unbounded.proofs.Laws.Invariant.{Base, Inv, asked}
 use Rattle.unbounded.proofs.Laws.Base.{at-cases, at-same, at-other, run-ready}
 use Rattle.unbounded.proofs.Laws.Keep.{after-keeps}
 

@@ -2,7 +2,6 @@
 use Prim.Native.Nat.{ℕ, _+_, _≤_, _<_}
 use mathlib.Core.Path.{_≡_, refl}
 use mathlib.Core.Bool.{Bool, true, false, _&&_}
-use mathlib.Core.List.{[]}
 use native.Mathlib.Omega.{arith}
 use lib.Dec.{eqb, leb}
 use Rattle.limits.specs.declared.Limits.{Limits}
@@ -45,12 +44,6 @@ abbrev pub covers : ℕ → Reply → Bool
 covers m x = leb (x .first) m && leb m (x .last)
 
 -- what `dataAt` and `replyAt` read past the end of a table
-abbrev pub noData : Message Data
-noData = record { body = record { number = 0; row = [] }; life = 0 }
-
-abbrev pub noReply : Message Reply
-noReply = record { body = record { first = 0; last = 0 }; life = 0 }
-
 -- how many messages in the air speak of m
 unfoldable pub inAir : Ends → ℕ → ℕ
 inAir s m = count (numbered m) (s .dataTable) + count (covers m) (s .replyTable)

@@ -5,13 +5,14 @@ use mathlib.Core.Bool.{true, false}
 use native.Mathlib.Omega.{arith}
 use borrow.Author.Tests.{eq-eqb, le-leb}
 use lib.ListN.{length}
+use Rattle.limits.specs.Tables.{noData, noReply}
 use Rattle.limits.specs.declared.Limits.{Limits}
 use Rattle.limits.proofs.Laws.Choice.{test, split, both}
 use Rattle.limits.proofs.Laws.Good.{Good}
 use Rattle.unbounded.specs.Ends.{Ends}
 use Rattle.unbounded.specs.Rules.{dataAt, replyAt}
 use Rattle.unbounded.proofs.Laws.Count.{count, one-yes, count-remove, all-at, sum, sum-add, sum-most, pigeonhole}
-use Rattle.unbounded.proofs.Laws.Invariant.{Inv, inAir, numbered, covers, noData, noReply}
+use Rattle.unbounded.proofs.Laws.Invariant.{Inv, inAir, numbered, covers}
 
 -- What the reading of numbers modulo 2w needs: each message lies within a window.
 pub record Reads (l : Limits) (s : Ends) : Type 0 where

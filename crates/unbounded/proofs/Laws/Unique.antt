@@ -9,14 +9,14 @@ use borrow.Author.Tests.{eqb-true, ne-eqb, eq-eqb, ltb-true, leb-true, lt-ltb, n
 use lib.ListN.{length}
 use Rattle.limits.specs.declared.Limits.{Limits}
 use Rattle.limits.specs.Questions.{firstNo}
-use Rattle.limits.specs.Tables.{Message, Data, Reply, remove}
+use Rattle.limits.specs.Tables.{Message, Data, Reply, remove, noData, noReply}
 use Rattle.limits.specs.Events.{Event, unknown, misfit, send, resend, arriveData, reply, arriveReply, loseData, loseReply, tick}
 use Rattle.limits.proofs.Laws.Choice.{test, pick-cases, and-left, and-right, both, or-goes-on, clash}
 use Rattle.limits.proofs.Laws.Good.{Good}
 use Rattle.unbounded.specs.Ends.{Ends, ready, run}
 use Rattle.unbounded.specs.Rules.{questions, act, sent, replied, withTables, holding, arrived, recording, acknowledging, later, dataAt, replyAt}
 use Rattle.unbounded.proofs.Laws.Count.{one, one-yes, one-no, count-put, count-remove, count-age, count-no}
-use Rattle.unbounded.proofs.Laws.Invariant.{DataOk, ReplyOk, Base, Unique, inAir, numbered, covers, noData, noReply, asked}
+use Rattle.unbounded.proofs.Laws.Invariant.{DataOk, ReplyOk, Base, Unique, inAir, numbered, covers, asked}
 use Rattle.unbounded.proofs.Laws.Base.{at-other, run-ready-at, run-some}
 
 -- what a passed test of a span says

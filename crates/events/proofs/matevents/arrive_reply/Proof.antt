@@ -2,13 +2,14 @@ use borrow.Author.Needs.{needs}
 use mathlib.Core.Path.{refl, _∙_, ap}
 use lib.ListN.{getD}
 use borrow.Author.Tests.{eqb-false}
+use Rattle.limits.specs.Tables.{noReply}
 use Rattle.limits.specs.Answer.{numberOf}
 use Rattle.limits.proofs.Laws.Promise.{not-done}
 use Rattle.limits.proofs.Laws.Questions.{more-stays}
 use Rattle.mat.specs.Rules.{acknowledgeQuestions}
 use Rattle.mat.specs.View.{matOf, matState}
 use Rattle.air.specs.Rules.{placeQuestions}
-use Rattle.air.specs.Replies.{replyTable, replyMessages, noReply}
+use Rattle.air.specs.Replies.{replyTable, replyMessages}
 use Rattle.air.proofs.Laws.Typed.{reply-count}
 use Rattle.events.specs.View.{linkState}
 use Rattle.events.proofs.Laws.Parts.{parts}

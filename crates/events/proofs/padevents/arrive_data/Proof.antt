@@ -7,7 +7,7 @@ use lib.ListN.{length, getD}
 use borrow.Author.Tests.{ltb-true}
 use Rattle.limits.specs.Answer.{numberOf}
 use Rattle.limits.specs.Questions.{ask}
-use Rattle.limits.specs.Tables.{capacity}
+use Rattle.limits.specs.Tables.{capacity, noData}
 use Rattle.limits.proofs.Laws.Promise.{not-done}
 use Rattle.limits.proofs.Laws.Questions.{more-stays}
 use Rattle.limits.proofs.Laws.Messages.{message-low, message-legal}
@@ -15,7 +15,7 @@ use Rattle.pad.specs.Rules.{arrival}
 use Rattle.pad.specs.View.{padOf, padState}
 use Rattle.pad.proofs.Laws.Calls.{arrive-new, arrive-old}
 use Rattle.air.specs.Rules.{placeQuestions}
-use Rattle.air.specs.Data.{dataTable, dataMessages, noData}
+use Rattle.air.specs.Data.{dataTable, dataMessages}
 use Rattle.air.specs.Replies.{replyTable, replyMessages}
 use Rattle.air.proofs.Laws.Typed.{data-count}
 use Rattle.events.specs.View.{linkState}

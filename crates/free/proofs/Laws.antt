@@ -1,0 +1,5 @@
+pub mod Places
+pub mod Mat
+pub mod Pad
+pub mod Tables
+pub mod Link
