@@ -3,9 +3,9 @@
  *   steps list       the rides: number, name, w, events
  *   steps ride N     does ride N; its calls stand in one_step, and the proved part of them in matlink_lent_step
  *   steps time N     million events per second of ride N, the best of some runs
- *   steps stack      bytes of stack that step and run need
+ *   steps stack      bytes of stack that each function of the header takes, and the proved function behind it
  */
-#include "matlink.h"
+#include "../../c/matlink_text.c"
 #include <stdio.h>
 #include <stdlib.h>
 #include <string.h>
@@ -107,74 +107,159 @@ static double rate(const struct ride *ride, const uint8_t *events, size_t count)
 /* Below is the stack. A list in which an event of every kind is done. */
 static const uint8_t every[] = {1, 0, 1, 0, 1, 0, 3, 1, 6, 1, 8, 1, 3, 0, 4, 0, 7, 0, 8, 250, 8, 250, 8, 250, 8, 250, 2, 0, 3, 0, 5, 0};
 
-/* Where the stack pointer stood when the function measured was called. */
+static uint16_t supply[16 * 16], head[10], frame_head[5], cells[16];
+static size_t numbers[3];
+static struct matlink_frame frame;
+static uint8_t bytes[MATLINK_DATA_FRAME_BYTES];
+static const char *volatile text;
+
+/* Where the return address stood when the function measured was called. */
 static uintptr_t entry;
 
-/* Functions with the parameters of the proved ones: a call of them says where a call of those begins. */
-static NOINLINE uint8_t step_entry(uint16_t *a, uint16_t *b, uint16_t *c, uint16_t *d, uint16_t *e, uint16_t *f, uint16_t *g,
-                                   uint16_t *h, uint16_t *i, uint32_t j, uint32_t k, const uint16_t *l, size_t m, uint16_t *n,
-                                   size_t o, size_t *p) {
-    entry = (uintptr_t)__builtin_frame_address(0);
-    return a == b && c == d && e == f && g == h && i == n && j == k && l == b && m == o && *p == 0;
+/* A call of it in the place of the function measured, with the same arguments, says where a call begins. */
+static NOINLINE uint8_t here(void) {
+    /* a frame address is that of the word below the return address */
+    entry = (uintptr_t)__builtin_frame_address(0) + sizeof(void *);
+    return 0;
 }
 
-static NOINLINE uint8_t run_entry(uint16_t *a, uint16_t *b, uint16_t *c, uint16_t *d, uint16_t *e, uint16_t *f, uint16_t *g,
-                                  uint16_t *h, uint16_t *i, const uint8_t *j, size_t k, const uint16_t *l, size_t m, uint16_t *n,
-                                  size_t o, uint8_t *p, size_t q, size_t *r) {
-    entry = (uintptr_t)__builtin_frame_address(0);
-    return a == b && c == d && e == f && g == h && i == n && j == p && l == b && k == m && o == q && *r == 0;
+/* `call` is the function measured, or `here`. It is volatile so that both are called alike, and the header's functions are not
+ * inlined. */
+#define CALL(name) __typeof__(name) *volatile call = measured ? name : (__typeof__(name) *)(void (*)(void))here
+
+#define ARRAYS ends.mat_mark, ends.mat_timer, ends.mat_cell, ends.pad_mark, ends.pad_timer, ends.pad_cell, ends.data, ends.reply
+
+static NOINLINE void lent_open(int measured) {
+    CALL(matlink_lent_open);
+    answers[0] = call(head, ARRAYS, 8, 250, 250, 250, 1000);
 }
 
-static uint16_t head[10];
-static size_t numbers[3];
+static NOINLINE void whole_open(int measured) {
+    CALL(matlink_open);
+    answers[0] = call(&ends, 8, 250, 250, 250, 1000);
+}
 
-static NOINLINE void lent_step(int proved) {
-    uint8_t (*volatile function)(uint16_t *, uint16_t *, uint16_t *, uint16_t *, uint16_t *, uint16_t *, uint16_t *, uint16_t *,
-                                 uint16_t *, uint32_t, uint32_t, const uint16_t *, size_t, uint16_t *, size_t, size_t *) =
-        proved ? matlink_lent_step : step_entry;
+static NOINLINE void lent_step(int measured) {
+    CALL(matlink_lent_step);
     size_t i;
     for (i = 0; i < sizeof every; i += 2)
-        answers[i / 2] = function(head, ends.mat_mark, ends.mat_timer, ends.mat_cell, ends.pad_mark, ends.pad_timer, ends.pad_cell,
-                                  ends.data, ends.reply, every[i], every[i + 1], row, 16, record, 32 * 16, numbers);
+        answers[i / 2] = call(head, ARRAYS, every[i], every[i + 1], row, 16, record, 32 * 16, numbers);
 }
 
-static NOINLINE void lent_run(int proved) {
-    uint8_t (*volatile function)(uint16_t *, uint16_t *, uint16_t *, uint16_t *, uint16_t *, uint16_t *, uint16_t *, uint16_t *,
-                                 uint16_t *, const uint8_t *, size_t, const uint16_t *, size_t, uint16_t *, size_t, uint8_t *,
-                                 size_t, size_t *) = proved ? matlink_lent_run : run_entry;
-    static uint16_t supply[16 * 16];
-    function(head, ends.mat_mark, ends.mat_timer, ends.mat_cell, ends.pad_mark, ends.pad_timer, ends.pad_cell, ends.data, ends.reply,
-             every, sizeof every, supply, 16 * 16, record, 32 * 16, answers, sizeof answers, numbers);
-}
-
-static NOINLINE uint8_t one_entry(uint32_t kind, uint32_t argument) {
-    entry = (uintptr_t)__builtin_frame_address(0);
-    return kind == argument;
-}
-
-static NOINLINE void whole_step(int proved) {
-    uint8_t (*volatile function)(uint32_t, uint32_t) = proved ? one_step : one_entry;
+static NOINLINE void whole_step(int measured) {
+    CALL(matlink_step);
     size_t i;
-    for (i = 0; i < sizeof every; i += 2) answers[i / 2] = function(every[i], every[i + 1]);
+    for (i = 0; i < sizeof every; i += 2) answers[i / 2] = call(&ends, every[i], every[i + 1], row, 16, record, 32 * 16, &counts);
+}
+
+static NOINLINE void lent_run(int measured) {
+    CALL(matlink_lent_run);
+    call(head, ARRAYS, every, sizeof every, supply, 16 * 16, record, 32 * 16, answers, sizeof answers, numbers);
+}
+
+static NOINLINE void whole_run(int measured) {
+    CALL(matlink_run);
+    call(&ends, every, sizeof every, supply, 16 * 16, record, 32 * 16, answers, sizeof answers, &counts);
+}
+
+static NOINLINE void lent_ride(int measured) {
+    CALL(matlink_lent_ride);
+    call(8, 250, 250, 250, 1000, every, sizeof every, supply, 16 * 16, record, 32 * 16, answers, sizeof answers, numbers);
+}
+
+static NOINLINE void whole_ride(int measured) {
+    CALL(matlink_ride);
+    call(8, 250, 250, 250, 1000, every, sizeof every, supply, 16 * 16, record, 32 * 16, answers, sizeof answers, &counts);
+}
+
+/* A data frame and a reply frame. */
+static const uint8_t data_bytes[MATLINK_DATA_FRAME_BYTES] = {1, 250, 32, 63}, reply_bytes[MATLINK_REPLY_FRAME_BYTES] = {2, 1, 2, 3, 0};
+
+static NOINLINE void lent_read_frame(int measured) {
+    CALL(matlink_lent_read_frame);
+    answers[0] = call(data_bytes, sizeof data_bytes, frame_head, cells);
+    answers[1] = call(reply_bytes, sizeof reply_bytes, frame_head, cells);
+}
+
+static NOINLINE void whole_read_frame(int measured) {
+    CALL(matlink_read_frame);
+    answers[0] = call(data_bytes, sizeof data_bytes, &frame);
+    answers[1] = call(reply_bytes, sizeof reply_bytes, &frame);
+}
+
+static NOINLINE void lent_write_frame(int measured) {
+    static const uint16_t data[5] = {1, 250, 32, 63, 0}, reply[5] = {2, 1, 2, 3, 0};
+    CALL(matlink_lent_write_frame);
+    answers[0] = call(data, cells, bytes, sizeof bytes, numbers);
+    answers[1] = call(reply, cells, bytes, sizeof bytes, numbers);
+}
+
+static NOINLINE void whole_write_frame(int measured) {
+    static const struct matlink_frame data = {1, 250, 32, 63, 0, {0}}, reply = {2, 1, 2, 3, 0, {0}};
+    uint64_t count;
+    CALL(matlink_write_frame);
+    answers[0] = call(&data, bytes, sizeof bytes, &count);
+    answers[1] = call(&reply, bytes, sizeof bytes, &count);
+}
+
+static NOINLINE void answer_text(int measured) {
+    CALL(matlink_answer_text);
+    text = call(255);
+}
+
+/* A function measured, and how many answers the call of it leaves. */
+struct measure {
+    const char *name;
+    void (*call)(int);
+    size_t answers;
+};
+
+#define EVENTS (sizeof every / 2)
+
+static const struct measure measures[] = {
+    {"matlink_open", whole_open, 1},
+    {"matlink_lent_open", lent_open, 1},
+    {"matlink_step", whole_step, EVENTS},
+    {"matlink_lent_step", lent_step, EVENTS},
+    {"matlink_run", whole_run, EVENTS},
+    {"matlink_lent_run", lent_run, EVENTS},
+    {"matlink_ride", whole_ride, EVENTS},
+    {"matlink_lent_ride", lent_ride, EVENTS},
+    {"matlink_read_frame", whole_read_frame, 2},
+    {"matlink_lent_read_frame", lent_read_frame, 2},
+    {"matlink_write_frame", whole_write_frame, 2},
+    {"matlink_lent_write_frame", lent_write_frame, 2},
+    {"matlink_answer_text", answer_text, 0},
+};
+
+static void fresh(void) {
+    check(matlink_open(&ends, 8, 250, 250, 250, 1000) == 0, "the link was not opened");
+    matlink_numbers(&ends, head);
 }
 
 /* Bytes of stack below the return address. What is below the stack pointer is painted, and the lowest byte that changed is looked
- * for. */
-static NOINLINE size_t used(void (*call)(int)) {
+ * for. A first call has the dynamic linker find what is called. */
+static NOINLINE size_t used(const struct measure *measure) {
     const size_t size = 1 << 16;
     volatile unsigned char *low;
-    size_t i, event;
-    check(matlink_open(&ends, 8, 250, 250, 250, 1000) == 0, "the link was not opened");
-    matlink_numbers(&ends, head);
-    call(0);
+    size_t i, at;
+    fresh();
+    measure->call(1);
+    fresh();
+    measure->call(0);
+    memset(answers, 255, sizeof answers);
     low = (volatile unsigned char *)entry - size;
     for (i = 0; i < size; i++) low[i] = 0xA5;
-    call(1);
+    measure->call(1);
     for (i = 0; i < size && low[i] == 0xA5; i++) {
     }
-    for (event = 0; event < sizeof every / 2; event++) check(answers[event] == 0, "an event was refused");
-    /* a frame address is that of the word below the return address */
-    return size - i + sizeof(void *);
+    for (at = 0; at < measure->answers; at++) check(answers[at] == 0, "a call or an event was refused");
+    return size - i;
+}
+
+static void stack(void) {
+    size_t i;
+    for (i = 0; i < sizeof measures / sizeof measures[0]; i++) printf("%s\t%u\n", measures[i].name, (unsigned)used(&measures[i]));
 }
 
 int main(int words, char **word) {
@@ -185,9 +270,7 @@ int main(int words, char **word) {
         for (n = 0; n < RIDES; n++)
             printf("%u\t%s\t%u\t%u\n", (unsigned)n, rides[n].name, (unsigned)rides[n].window, (unsigned)list(&rides[n], events));
     } else if (strcmp(word[1], "stack") == 0) {
-        printf("matlink_lent_step\t%u\n", (unsigned)used(lent_step));
-        printf("matlink_lent_run\t%u\n", (unsigned)used(lent_run));
-        printf("matlink_step and a call of it\t%u\n", (unsigned)used(whole_step));
+        stack();
     } else {
         count = list(&rides[n], events);
         begin(&rides[n]);
