@@ -24,7 +24,7 @@ static void must(int good, const char *what) {
 static void answered(const char *what, uint8_t answer, uint8_t expected) {
     printf("%s: %u%s%s\n", what, answer, answer == MATLINK_DONE ? "" : ", ",
            answer == MATLINK_DONE ? "" : matlink_answer_text(answer));
-    if (answer != expected) must(0, "that is the answer");
+    if (answer != expected) must(0, matlink_answer_text(expected));
 }
 
 /* One event. It is handed the rows that were not sent yet and the part of the record that was not written yet. */

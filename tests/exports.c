@@ -19,8 +19,8 @@ static const uint16_t *const supply = rows;
 static const struct matlink_frame *const lent_frame = &frame;
 static const uint8_t *const lent_bytes = bytes;
 
-/* What a single event is lent. */
-static size_t supply_count = MATLINK_ROW_CELLS, record_count = 2 * MATLINK_ROW_CELLS;
+/* What a single event or a ride is lent, in cells. */
+static size_t supply_lent = MATLINK_ROW_CELLS, record_lent = 2 * MATLINK_ROW_CELLS;
 
 static void show_counts(void) {
     printf(" sent %u acknowledged %u recorded %u", (unsigned)counts.sent, (unsigned)counts.acknowledged,
@@ -52,7 +52,7 @@ static void step(uint32_t kind, uint32_t argument) {
     uint8_t answer;
     keep();
     memset(&counts, 0xAA, sizeof counts);
-    answer = matlink_step(&now, kind, argument, supply, supply_count, record, record_count, &counts);
+    answer = matlink_step(&now, kind, argument, supply, supply_lent, record, record_lent, &counts);
     printf("event %u %u: %u", (unsigned)kind, (unsigned)argument, answer);
     show_counts();
     show_link(answer);
@@ -76,7 +76,7 @@ static void ride(const char *what, uint32_t window, uint32_t data_life, uint32_t
     memset(record, 0, sizeof record);
     memset(&counts, 0xAA, sizeof counts);
     memset(answers, 77, sizeof answers);
-    answer = matlink_ride(window, data_life, 1, 1, resend_wait, events, events_count, supply, supply_count, record, 32, answers, 8,
+    answer = matlink_ride(window, data_life, 1, 1, resend_wait, events, events_count, supply, supply_lent, record, 32, answers, 8,
                           &counts);
     printf("ride, %s: %u, answers %u %u", what, answer, answers[0], answers[4]);
     show_counts();
@@ -154,22 +154,22 @@ static void fill_air(void) {
 /* Where several questions are answered no, the answer is that of the first one in the header's order. */
 static void mat_order(void) {
     open_link("for the mat's order", 2, 2, 2, 2, 0);
-    supply_count = 17;
+    supply_lent = 17;
     now.window = 0;
     step(9, 0);
     now.window = 2;
     step(9, 0);
-    supply_count = 16;
+    supply_lent = 16;
     step(9, 0);
     step(MATLINK_SEND, 0);
     step(MATLINK_SEND, 0);
     fill_air();
-    supply_count = 0;
+    supply_lent = 0;
     rows[15] = MATLINK_CELL_MOST + 1;
     step(MATLINK_SEND, 0);
     now.next = 1;
     step(MATLINK_SEND, 0);
-    supply_count = 16;
+    supply_lent = 16;
     step(MATLINK_SEND, 0);
     rows[15] = MATLINK_CELL_MOST;
     step(MATLINK_SEND, 0);
@@ -195,12 +195,12 @@ static void pad_order(void) {
     open_link("for the pad's order", 2, 2, 2, 2, 0);
     step(MATLINK_SEND, 0);
     fill_air();
-    record_count = 15;
+    record_lent = 15;
     step(MATLINK_REPLY, 0);
     step(MATLINK_ARRIVE_DATA, MATLINK_TABLE_MOST);
     step(MATLINK_ARRIVE_DATA, 31);
     step(MATLINK_REPLY, 0);
-    record_count = 16;
+    record_lent = 16;
     step(MATLINK_REPLY, 0);
     now.reply_count = 31;
     step(MATLINK_REPLY, 0);
@@ -208,14 +208,14 @@ static void pad_order(void) {
     now.reply_count = 31;
     step(MATLINK_ARRIVE_DATA, 0);
     printf("in the air %u and %u\n", now.data_count, now.reply_count);
-    record_count = 32;
+    record_lent = 32;
 }
 
 static void runs(void) {
     static const uint8_t list[] = {1, 0, 3, 0, 4, 0, 5, 0, 1, 0};
     memset(record, 0, sizeof record);
     open_link("for runs", 2, 1, 1, 1, 4);
-    run("five events", list, 10, 32, 8);
+    run("five events", list, 5 * MATLINK_EVENT_BYTES, 32, 8);
     run("odd bytes", list, 9, 32, 8);
     run("half a row", list, 10, 24, 8);
     run("four answers", list, 10, 32, 4);
@@ -230,7 +230,7 @@ static void runs(void) {
 
 static void rides(void) {
     static const uint8_t list[] = {1, 0, 3, 0, 4, 0, 5, 0, 1, 0, 8, 1, 8, 1, 8, 1, 8, 1};
-    supply_count = 32;
+    supply_lent = 32;
     ride("five events", 2, 1, 4, list, 10);
     ride("window 65538", 65538, 1, 4, list, 10);
     ride("data life 65537", 2, 65537, 4, list, 10);
@@ -240,7 +240,7 @@ static void rides(void) {
     ride("resend wait 3, data life 0", 2, 0, 3, list, 10);
     ride("data life 0, window 0", 0, 0, 4, list, 10);
     ride("nine events", 2, 1, 4, list, 18);
-    supply_count = 24;
+    supply_lent = 24;
     ride("nine events, half a row", 2, 1, 4, list, 18);
     ride("nine events, half a row, odd bytes", 2, 1, 4, list, 17);
 }

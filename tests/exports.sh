@@ -12,8 +12,8 @@ compile() {
     case $1 in c++*) language=c++ ;; esac
     cc -x "$language" -std="$1" -Wall -Wextra -pedantic -Werror -O2 -I c/include -c -o "$here/$1-$(basename "$2" .c).o" "$2"
 }
-# link STANDARD PROGRAM: its object with the library and with the texts as C99, also where the program is C++
-link() { cc -o "$here/$2" "$here/$1-$2.o" "$here/c99-matlink_text.o" target/staticlib/libexports.a; }
+# build STANDARD PROGRAM: its object with the library and with the texts as C99, also where the program is C++
+build() { cc -o "$here/$2" "$here/$1-$2.o" "$here/c99-matlink_text.o" target/staticlib/libexports.a; }
 
 cat >"$here/example.expected" <<'END'
 open: 0
@@ -48,7 +48,7 @@ for standard in c99 c11 c++11; do
     compile "$standard" c/matlink_text.c
     for file in c/example.c tests/exports.c; do
         compile "$standard" "$file"
-        link "$standard" "$(basename "$file" .c)"
+        build "$standard" "$(basename "$file" .c)"
     done
     timeout 10 "$here/example" | diff "$here/example.expected" - || { echo "$standard: the example printed something else"; exit 1; }
     timeout 10 "$here/exports" | diff tests/exports.expected - || { echo "$standard: a call did something else"; exit 1; }
@@ -57,7 +57,7 @@ done
 # The example ends with 1 where an answer is not the one that it expects.
 sed 's/MATLINK_TIMER_RUNNING/MATLINK_DONE/' c/example.c >"$here/wrong.c"
 compile c99 "$here/wrong.c"
-link c99 wrong
+build c99 wrong
 status=0
 timeout 10 "$here/wrong" >"$here/wrong.out" || status=$?
 [ "$status" = 1 ] || { echo "the example with a wrong answer: exit status $status"; exit 1; }

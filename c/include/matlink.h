@@ -3,23 +3,23 @@
  * is kept between two calls stands in the struct. matlink_text.c, which gives answers in words, is compiled with the program.
  *
  * Slices. A slice is two arguments, a pointer to its first element and the count of its elements. No pointer is NULL, and each
- * is aligned for its type, also where the count is 0. What is lent as `const` is not written.
+ * is aligned for its type, also where the count is 0.
  *
  * Answers. Every call returns the number of its answer (enum matlink_answer). 0 is done; any other number is that of the first
- * question answered no, in the order that the function's comment gives, and the call is then refused. The comment says all that
- * a call writes, done or refused; everything else is as it was.
+ * question answered no, in the order that the function's comment gives, and the call is then refused. The comment says all
+ * that a call writes, done or refused; everything else is as it was.
  *
- * Overlap. What a call may write (link, record, answers, counts, out, buffer, count) overlaps nothing else that is handed to the
- * same call. What it only reads (supply, events, frame) may overlap what it only reads. The functions of this header copy the ten
- * numbers of a link, the five numbers of a frame, the counts and `count` to and from variables of their own, and write them after
- * the proved function has returned; arrays and slices are lent as they are and not copied.
+ * Overlap. What a call may write (link, record, answers, counts, out, buffer, count) overlaps nothing else that is handed to
+ * the same call. What it only reads (supply, events, frame) may overlap one another. The functions of this header copy the ten
+ * numbers of a link, the five numbers of a frame, the counts and `count` to and from variables of their own, and write them
+ * back after the proved function has returned, some of them unchanged; arrays and slices are lent as they are.
  *
  * At the same time. A call uses the memory that it is handed and its stack, and no other. So calls may interrupt each other if
- * neither writes what the other is handed.
+ * neither may write what the other is handed.
  *
  * Stack. Each comment says how many bytes of stack a call takes below its return address, and how many of these the proved
- * function takes below its own. They were measured by tests/by-hand/steps.c on x86-64, with the functions of this header compiled
- * by gcc 12.2 at -O2 and not inlined. No input makes them more; other processors and compilers give other figures.
+ * function takes below its own. They were measured by tests/by-hand/steps.c on x86-64, with the functions of this header
+ * compiled by gcc 12.2 at -O2 and not inlined. No input makes them more; other processors and compilers give other figures.
  */
 #ifndef MATLINK_H
 #define MATLINK_H
@@ -45,23 +45,23 @@ extern "C" {
 #define MATLINK_DATA_FRAME_BYTES 36   /* 1, life, w, number, sixteen cells with the low byte first */
 #define MATLINK_REPLY_FRAME_BYTES 5   /* 2, life, w, first, last */
 
-/* The kinds of events. Rows and messages are counted from the oldest, which is 0; when a message leaves a table, those behind it
- * move up. */
+/* The kinds of events, with their arguments. Rows and messages are counted from the oldest, which is 0; when a message leaves a
+ * table, those behind it move up. */
 enum matlink_event {
-    MATLINK_SEND = 1,         /* argument 0: the next row of the supply is sent */
+    MATLINK_SEND = 1,         /* 0: the next row of the supply is sent */
     MATLINK_RESEND = 2,       /* k: outstanding row k is sent again */
     MATLINK_ARRIVE_DATA = 3,  /* p: data message p arrives at the pad */
     MATLINK_REPLY = 4,        /* 0: the rows that are ready are recorded, and one reply for them is sent */
     MATLINK_ARRIVE_REPLY = 5, /* p: reply p arrives at the mat */
     MATLINK_LOSE_DATA = 6,    /* p: data message p is lost */
     MATLINK_LOSE_REPLY = 7,   /* p: reply p is lost */
-    MATLINK_TICK = 8          /* d, 1 to 255: d ticks pass */
+    MATLINK_TICK = 8,         /* d, 1 to 255: d ticks pass */
 };
 
 /* The kinds of frames. */
 enum matlink_frame_kind {
-    MATLINK_DATA_FRAME = 1, /* a row under its number */
-    MATLINK_REPLY_FRAME = 2 /* a reply for rows */
+    MATLINK_DATA_FRAME = 1,  /* a row under its number */
+    MATLINK_REPLY_FRAME = 2, /* a reply for rows */
 };
 
 /* The answers. Beside each number stands the question that was answered no. */
@@ -95,28 +95,29 @@ enum matlink_answer {
     MATLINK_BAD_FRAME_LIFE = 26,       /* frame: is its life 1 to 250? */
     MATLINK_BAD_FRAME_SPAN = 27,       /* reply frame: does it cover at most w rows? */
     MATLINK_SHORT_BUFFER = 28,         /* frame that is written: is the buffer long enough? */
-    MATLINK_BAD_INPUT_LENGTH = 29      /* the trial program alone: is the length of its input right? */
+    MATLINK_BAD_INPUT_LENGTH = 29,     /* the trial program alone: is the length of its input right? */
 };
 
-/* The text of an answer, in the words of docs/RIDES.md, and "unknown answer" of a number that is none. It is constant and never
- * NULL. Stack: none. */
+/* The text of an answer, in the words of docs/RIDES.md, and "unknown answer" for a number that is none. It is constant and
+ * never NULL. Stack: none. */
 const char *matlink_answer_text(uint8_t answer);
 
 /* A link. It has no padding and can be copied byte for byte; a copy is a link as good as the first. Whoever makes a link up or
- * changes a number may write anything: question 4 is put by matlink_step and matlink_run. A mark is off for 0 and on for anything
- * else, and a call that is done leaves 0 or 1. Row number n of an end has place n mod w in its arrays; message p of a table begins
- * at p times the count of its numbers.
+ * changes a number may write anything: matlink_step and matlink_run ask first whether it is sound (4). A mark is off for 0 and on
+ * for anything else, and a call that is done leaves 0 or 1. The row with number n has place n mod w in the arrays of an end, and
+ * message p of a table begins at p times MATLINK_DATA_NUMBERS or MATLINK_REPLY_NUMBERS.
  *
  * A link is sound if
  *    questions 1 to 3 are answered yes of its limits, and the resend wait is not 0;
  *    oldest, next and wanted are below 2w, and the rows outstanding, (next - oldest) mod 2w of them, are at most w;
  *    the mat has no mark at the place of oldest, nor at one of the first w places whose row is not outstanding;
- *    of the first w places each timer of the mat is at most the resend wait, each of the pad at most the reply wait;
- *    each table has at most 32 messages, each with a life of 1 to the data life or reply life, numbers below 2w, and if it is a
- *    reply at most w rows, (last - first) mod 2w + 1;
+ *    of the first w places each timer of the mat is at most the resend wait, and each of the pad at most the reply wait;
+ *    each table has at most 32 messages, whose lives are 1 to the data life or reply life and whose numbers are below 2w, and
+ *    each reply covers at most w rows, (last - first) mod 2w + 1;
  *    the cells of rows outstanding, of rows held (marked at the pad) and of data messages are at most 4095.
- * Not promised is what a call leaves beyond the first w places and behind the messages of a table, in the cells of rows neither
- * outstanding nor held, and in the reply timers of rows not held. Two links in the same state may differ there. */
+ *
+ * What a call that is done leaves beyond the first w places, behind the messages of a table, in the cells of rows neither
+ * outstanding nor held and in the reply timers of rows not held is not promised. Two links in the same state may differ there. */
 struct matlink {
     uint16_t window, data_life, reply_life, reply_wait, resend_wait;
     uint16_t oldest, next, wanted, data_count, reply_count;
@@ -131,14 +132,15 @@ struct matlink_counts {
     uint64_t sent, acknowledged, recorded;
 };
 
-/* A frame of kind 1 carries a row under its number, and `last` is 0. One of kind 2 is a reply for the rows from `number` to
- * `last`, and its cells are 0. It has no padding. */
+/* A frame. One of kind 1 carries a row under its number; when read, its `last` is 0. One of kind 2 is a reply for the rows from
+ * `number` to `last`; when read, its cells are 0. It has no padding. */
 struct matlink_frame {
     uint16_t kind, life, window, number, last, cell[MATLINK_ROW_CELLS];
 };
 
-/* Inner: the proved functions that the calls below lend to. The numbers of a link are lent as an array of ten and those of a
- * frame as an array of five, in the order of their struct; the counts are three: sent, acknowledged, recorded. */
+/* Inner: the proved functions that the calls below lend to. Each asks, answers and writes as the function of its name below.
+ * The numbers of a link are lent as an array of ten and those of a frame as an array of five, in the order of their struct. The
+ * counts are three: sent, acknowledged, recorded. */
 uint8_t matlink_lent_open(uint16_t *head, uint16_t *mat_mark, uint16_t *mat_timer, uint16_t *mat_cell, uint16_t *pad_mark,
                           uint16_t *pad_timer, uint16_t *pad_cell, uint16_t *data, uint16_t *reply, uint32_t window,
                           uint32_t data_life, uint32_t reply_life, uint32_t reply_wait, uint32_t resend_wait);
@@ -192,10 +194,10 @@ static inline void matlink_counted(struct matlink_counts *counts, const size_t *
 }
 
 /* Opens a link.
- * Asked in this order: window (1), the three times (2), resend wait (3). A limit of more than 16 bits is refused as 65535 is. What
- * stood in the link before is not read.
- * Done: every number of the link is written. It has these limits, with the sum of the three times plus 1 for a resend wait of 0,
- * and all other numbers are 0.
+ * Asked in this order: window (1), the three times (2), resend wait (3). A limit of more than 16 bits is refused as 65535 is.
+ * What stood in the link before is not read.
+ * Done: every number of the link is written. It has these limits, with the sum of the three times plus 1 for a resend wait of
+ * 0, and all other numbers are 0.
  * Refused: every number of the link is 0, and matlink_step and matlink_run answer 4 to such a link.
  * Stack: 192 bytes, the proved function 80. */
 static inline uint8_t matlink_open(struct matlink *link, uint32_t window, uint32_t data_life, uint32_t reply_life,
@@ -215,13 +217,18 @@ static inline uint8_t matlink_open(struct matlink *link, uint32_t window, uint32
 
 /* One event.
  * Asked in this order: the link is sound (4), the supply is whole rows (6), kind (8), argument (9); then
- *    send 10, 11, 12, 13        arrival of data 17, and 18 if its row was recorded before        loss of data or of a reply 17
- *    resend 14, 15, 16, 13      reply 20, 21, 18      arrival of a reply 17, 19                  tick nothing
- * A kind or an argument above 255 is no event: 8. 6 is asked of every event, 12 of the first row of the supply alone.
- * Done: the link is the one after the event. A send takes the first row of the supply. A reply writes the rows that it records to
- * the front of the record, one after the other, and the cells behind them are as they were; other events write nothing there. The
- * counts say what rose. The next call gets the supply from behind the rows sent and the record from behind the rows recorded.
- * Refused: link and record are as they were, and the counts are 0, whatever was refused.
+ *    send                    10, 11, 12, 13
+ *    resend                  14, 15, 16, 13
+ *    data arrives            17, and 18 if its row was recorded before
+ *    reply                   20, 21, 18
+ *    a reply arrives         17, 19
+ *    data or reply is lost   17
+ *    ticks                   nothing more
+ * A kind or an argument above 255 is no event: 8. 6 is asked of every event, and 12 of the first row of the supply alone.
+ * Done: the link is the one after the event. A send takes the first row of the supply. A reply writes the rows that it records
+ * to the front of the record, and the cells behind them are as they were; other events write nothing there. The counts say what
+ * rose. The next call gets the supply from behind the rows sent, and the record from behind the rows recorded.
+ * Refused: link and record are as they were, and the counts are 0, whichever question it was.
  * Stack: 856 bytes, the proved function 680. */
 static inline uint8_t matlink_step(struct matlink *link, uint32_t kind, uint32_t argument, const uint16_t *supply,
                                    size_t supply_count, uint16_t *record, size_t record_count,
@@ -240,13 +247,13 @@ static inline uint8_t matlink_step(struct matlink *link, uint32_t kind, uint32_t
 
 /* A list of events, two bytes each, kind and argument.
  * Asked in this order: the link is sound (4), the event bytes are even in count (5), the supply is whole rows (6), there is an
- * answer byte for each event (7). Then each event is put in its turn and asked from 8 on, as by matlink_step, with the rows of the
- * supply that were not sent yet and the part of the record that was not written yet. A refused event changes nothing but its
- * answer byte, and the next one follows.
- * Done: the link is the one after all events, and as it was if every event was refused. The first answer bytes are the events'
- * answers, one each. The rows recorded stand at the front of the record, one after the other. The rest of both is as it was. The
- * counts say what rose in all. No events are a list, too.
- * Refused: link, record and answers are as they were, and the counts are 0, whatever was refused.
+ * answer byte for each event (7). Then each event is put in its turn and asked from 8 on as by matlink_step, with the rows of
+ * the supply that were not sent yet and the part of the record that was not written yet. A refused event changes nothing but
+ * its answer byte, and the next one follows. A list may be empty.
+ * Done: the link is the one after all events; if every event was refused, it is as it was. The first answer bytes are the
+ * events' answers, one each, and the rows recorded stand at the front of the record; the rest of both is as it was. The counts
+ * say what rose in all.
+ * Refused: link, record and answers are as they were, and the counts are 0, whichever question it was.
  * Stack: 856 bytes, the proved function 664. */
 static inline uint8_t matlink_run(struct matlink *link, const uint8_t *events, size_t events_count, const uint16_t *supply,
                                   size_t supply_count, uint16_t *record, size_t record_count, uint8_t *answers,
@@ -266,8 +273,8 @@ static inline uint8_t matlink_run(struct matlink *link, const uint8_t *events, s
 /* A link opened and run, which is gone afterwards.
  * Asked in this order: 1, 2, 3 as by matlink_open, then 5, 6, 7 and the events as by matlink_run.
  * Done: record, answers and counts as by matlink_run.
- * Refused: record and answers are as they were, and the counts are 0, whatever was refused.
- * Stack: 7912 bytes, the proved function 7800; the link is kept there. */
+ * Refused: record and answers are as they were, and the counts are 0, whichever question it was.
+ * Stack: 7912 bytes, the proved function 7800. The link is kept there. */
 static inline uint8_t matlink_ride(uint32_t window, uint32_t data_life, uint32_t reply_life, uint32_t reply_wait,
                                    uint32_t resend_wait, const uint8_t *events, size_t events_count, const uint16_t *supply,
                                    size_t supply_count, uint16_t *record, size_t record_count, uint8_t *answers,
@@ -280,8 +287,8 @@ static inline uint8_t matlink_ride(uint32_t window, uint32_t data_life, uint32_t
 }
 
 /* Reads a frame from any bytes.
- * Asked in this order: there is a first byte, and it is a kind (22), length (23), window (24), numbers (25), life (26); then of a
- * data frame the cells (12) and of a reply frame the rows that it covers (27).
+ * Asked in this order: there is a first byte, and it is a kind (22); length (23), window (24), numbers (25), life (26); then of
+ * a data frame the cells (12), and of a reply frame the rows that it covers (27).
  * Done: every number of `out` is written, with 0 for what the kind does not have.
  * Refused: `out` is as it was.
  * Stack: 48 bytes, the proved function 16. */
@@ -299,12 +306,12 @@ static inline uint8_t matlink_read_frame(const uint8_t *frame, size_t frame_coun
 }
 
 /* Writes a frame to the front of the buffer.
- * Asked in this order: kind (22), window (24), numbers (25), life (26); then of a data frame the cells (12) and of a reply frame
- * the rows that it covers (27); then the length of the buffer (28). What the kind does not have (`last` of a data frame, the cells
- * of a reply frame) is not looked at.
+ * Asked in this order: kind (22), window (24), numbers (25), life (26); then of a data frame the cells (12), and of a reply
+ * frame the rows that it covers (27); then the length of the buffer (28). What the kind does not have (`last` of a data frame,
+ * the cells of a reply frame) is not looked at.
  * Done: `count` gets the count of bytes written, 36 of a data frame and 5 of a reply frame, and the bytes behind them are as
  * they were.
- * Refused: the buffer is as it was, and `count` gets 0, whatever was refused.
+ * Refused: the buffer is as it was, and `count` gets 0, whichever question it was.
  * Stack: 56 bytes, the proved function 8. */
 static inline uint8_t matlink_write_frame(const struct matlink_frame *frame, uint8_t *buffer, size_t buffer_count,
                                           uint64_t *count) {
