@@ -35,10 +35,7 @@ pub const NUMBERS: [(&str, &str); 30] = [
     ("BadInputLength", "the input ends before its rows do, or is longer than 40,960 bytes"),
 ];
 
-/// A number with its meaning, where it has one.
-pub fn meaning(number: &str) -> String {
-    match number.parse::<usize>().ok().and_then(|n| NUMBERS.get(n)) {
-        Some((_, words)) => format!("{number}  {words}"),
-        None => format!("{number}  (a number without a meaning)"),
-    }
+/// What a number means.
+pub fn meaning(number: u8) -> &'static str {
+    NUMBERS.get(usize::from(number)).map_or("(a number without a meaning)", |(_, words)| words)
 }

@@ -1,77 +1,124 @@
-//! Runs a ride that is written in words: turns it into the trial's input, runs the trial and prints each event with its answer.
-//!
-//!     ride FILE TRIAL      FILE is the ride, TRIAL the trial program
-//!     ride --bytes FILE    prints the trial's input and runs nothing
-//!     ride --tables        prints the tables of events and answers, as they stand in docs/RIDES.md
-//!
-//! The exit status is 0 if the trial ran, 1 if the ride cannot be read, and 2 if the trial cannot be run.
+//! Runs rides that are written in words. usage.txt says how it is called, docs/RIDES.md what a ride is and what is printed.
 
+mod brief;
+mod chart;
+mod link;
+mod nearest;
 mod numbers;
+mod run;
+mod story;
+mod svg;
 mod text;
 
-use std::io::Write;
-use std::process::{exit, Command, Stdio};
-use text::{Event, Ride};
+use run::Stop;
+use std::io::{ErrorKind, Write};
+use std::process::exit;
+use text::Ride;
 
-const UNREADABLE: i32 = 1;
-const NO_TRIAL: i32 = 2;
+const USAGE: &str = include_str!("usage.txt");
 
-fn stop(status: i32, why: &str) -> ! {
-    eprintln!("{why}");
-    exit(status)
+/// The exit statuses: the text or the command line has a fault; something cannot be run or written.
+const FAULT: i32 = 1;
+const NO_RUN: i32 = 2;
+
+/// Why a ride is not printed.
+struct Failure {
+    status: i32,
+    why: String,
 }
 
-fn ride_of(file: &str) -> Ride {
-    let bytes = std::fs::read(file).unwrap_or_else(|e| stop(UNREADABLE, &format!("{file}: {e}")));
-    text::read(&String::from_utf8_lossy(&bytes)).unwrap_or_else(|faults| {
-        let lines: Vec<String> = faults.iter().map(|f| format!("{file}:{}: {}", f.line, f.text)).collect();
-        stop(UNREADABLE, &lines.join("\n"))
+fn fault(why: String) -> Failure {
+    Failure { status: FAULT, why }
+}
+
+fn no_run(why: String) -> Failure {
+    Failure { status: NO_RUN, why }
+}
+
+/// What is asked for in the command line.
+#[derive(Default)]
+struct Asked<'a> {
+    brief: bool,
+    bytes: bool,
+    chart: Option<&'a str>,
+    trial: Option<&'a str>,
+    files: Vec<&'a str>,
+}
+
+/// Who reads the output may stop when he has enough; that is no fault.
+fn print(bytes: &[u8], status: i32) {
+    let mut stdout = std::io::stdout();
+    match stdout.write_all(bytes).and_then(|()| stdout.flush()) {
+        Err(e) if e.kind() == ErrorKind::BrokenPipe => exit(status),
+        Err(e) => {
+            eprintln!("standard output: {e}");
+            exit(NO_RUN)
+        }
+        Ok(()) => (),
+    }
+}
+
+fn ride_of(file: &str) -> Result<Ride, Failure> {
+    let bytes = std::fs::read(file).map_err(|e| fault(format!("{file}: {e}")))?;
+    if bytes.starts_with(b"\xff\xfe") || bytes.starts_with(b"\xfe\xff") {
+        return Err(fault(format!("{file}:1: the text is UTF-16; a ride is UTF-8")));
+    }
+    text::read(&String::from_utf8_lossy(&bytes)).map_err(|faults| {
+        let mut lines: Vec<String> = faults.list.iter().map(|f| format!("{file}:{}: {}", f.line, f.text)).collect();
+        if faults.unknown {
+            let forms: Vec<String> = text::forms().iter().map(|form| format!("`{form}`")).collect();
+            lines.push(format!("{file}: the lines of a ride are {}", forms.join(", ")));
+        }
+        fault(lines.join("\n"))
     })
 }
 
-/// What the trial prints. It reads all of its input before it prints, so the input can be written first.
-fn run(trial: &str, input: &[u8]) -> std::io::Result<String> {
-    let mut child = Command::new(trial).stdin(Stdio::piped()).stdout(Stdio::piped()).spawn()?;
-    if let Some(mut stdin) = child.stdin.take() {
-        stdin.write_all(input)?;
-    }
-    let output = child.wait_with_output()?;
-    if !output.status.success() {
-        return Err(std::io::Error::other(output.status.to_string()));
-    }
-    Ok(String::from_utf8_lossy(&output.stdout).into_owned())
+/// The last part of a path, so that a chart does not depend on where it is made.
+fn name(file: &str) -> &str {
+    file.rsplit('/').next().unwrap_or(file)
 }
 
-/// The trial's line for an event with the event in words, or nothing if the line is not about this event.
-fn answered(event: &Event, line: &str) -> Option<String> {
-    let answer = line.strip_prefix(&format!("{} {} ", event.kind, event.argument))?;
-    let said = if answer == "0" { answer.to_string() } else { numbers::meaning(answer) };
-    Some(format!("{:>4}  {:<20} {said}\n", event.line, text::name(event.kind, event.argument)))
+fn by_library(asked: &Asked, file: &str, ride: &Ride) -> Result<String, Failure> {
+    let (told, drawn) = match run::run(ride) {
+        Ok(run) if asked.brief => (brief::table(&ride.events, &brief::Answers::of(&run)), chart::drawn(name(file), &run)),
+        Ok(run) => (story::told(&run), chart::drawn(name(file), &run)),
+        Err(Stop::Refused(answer)) => {
+            (brief::refused(answer), chart::drawn_refused(name(file), &ride.limits(), answer))
+        }
+        Err(Stop::Disagrees(why)) => return Err(no_run(format!("{file}: the library is not the proved one: {why}"))),
+    };
+    if let Some(path) = asked.chart {
+        std::fs::write(path, drawn).map_err(|e| no_run(format!("{path}: {e}")))?;
+    }
+    Ok(told)
 }
 
-/// The trial's lines with the events in words, or nothing if they do not fit the events.
-fn told(events: &[Event], output: &str) -> Option<String> {
-    let lines: Vec<&str> = output.lines().collect();
-    if let [line] = lines[..] {
-        if let Some(number) = line.strip_prefix("refused ") {
-            return Some(format!("refused {}\n", numbers::meaning(number)));
+fn printed(asked: &Asked, file: &str) -> Result<Vec<u8>, Failure> {
+    let ride = ride_of(file)?;
+    match asked.trial {
+        _ if asked.bytes => Ok(ride.bytes()),
+        Some(program) => brief::by_program(program, &ride).map(String::into_bytes).map_err(no_run),
+        None => by_library(asked, file, &ride).map(String::into_bytes),
+    }
+}
+
+/// Each file gets its turn, whatever the others have in them.
+fn run_all(asked: &Asked) -> i32 {
+    let mut status = 0;
+    for (n, file) in asked.files.iter().enumerate() {
+        if asked.files.len() > 1 {
+            let space = if n == 0 { "" } else { "\n" };
+            print(format!("{space}{file}\n").as_bytes(), status);
+        }
+        match printed(asked, file) {
+            Ok(bytes) => print(&bytes, status),
+            Err(failure) => {
+                eprintln!("{}", failure.why);
+                status = status.max(failure.status);
+            }
         }
     }
-    let (counts, lines) = lines.split_last()?;
-    if lines.len() != events.len() || !counts.starts_with("sent ") {
-        return None;
-    }
-    let mut told = String::from("line  event                answer\n");
-    for (event, line) in events.iter().zip(lines) {
-        told.push_str(&answered(event, line)?);
-    }
-    Some(format!("{told}{counts}\n"))
-}
-
-fn print(bytes: &[u8]) {
-    let mut stdout = std::io::stdout();
-    let written = stdout.write_all(bytes).and_then(|()| stdout.flush());
-    written.unwrap_or_else(|e| stop(NO_TRIAL, &format!("standard output: {e}")));
+    status
 }
 
 fn tables() -> String {
@@ -86,20 +133,47 @@ fn tables() -> String {
     lines.join("\n") + "\n"
 }
 
+fn asked<'a>(words: &[&'a str]) -> Result<Asked<'a>, String> {
+    let mut asked = Asked::default();
+    let mut words = words.iter();
+    while let Some(word) = words.next() {
+        match *word {
+            "--brief" => asked.brief = true,
+            "--bytes" => asked.bytes = true,
+            // the ending, so that a ride that stands in the chart's place is not overwritten
+            "--chart" => match words.next() {
+                Some(path) if path.ends_with(".svg") => asked.chart = Some(path),
+                _ => return Err("--chart is followed by a file whose name ends with .svg".to_string()),
+            },
+            "--trial" => asked.trial = Some(words.next().ok_or("--trial is followed by a program")?),
+            option if option.starts_with('-') => return Err(format!("there is no option {option}")),
+            file => asked.files.push(file),
+        }
+    }
+    let single = asked.chart.is_some() || asked.bytes;
+    let others = [asked.bytes, asked.trial.is_some(), asked.chart.is_some()].iter().filter(|on| **on).count();
+    match asked.files.len() {
+        0 => Err("no ride is named".to_string()),
+        2.. if single => Err("--chart and --bytes take one ride".to_string()),
+        _ if others > 1 => Err("--chart, --trial and --bytes exclude each other".to_string()),
+        _ => Ok(asked),
+    }
+}
+
 fn main() {
     let words: Vec<String> = std::env::args().skip(1).collect();
     let words: Vec<&str> = words.iter().map(String::as_str).collect();
-    match words[..] {
-        ["--tables"] => print(tables().as_bytes()),
-        ["--bytes", file] => print(&ride_of(file).bytes()),
-        [file, trial] => {
-            let ride = ride_of(file);
-            let output = run(trial, &ride.bytes()).unwrap_or_else(|e| stop(NO_TRIAL, &format!("{trial}: {e}")));
-            match told(&ride.events, &output) {
-                Some(told) => print(told.as_bytes()),
-                None => stop(NO_TRIAL, &format!("{trial} printed something else than answers:\n{output}")),
-            }
+    if words.iter().any(|word| ["--help", "-h"].contains(word)) {
+        return print(USAGE.as_bytes(), 0);
+    }
+    if words == ["--tables"] {
+        return print(tables().as_bytes(), 0);
+    }
+    match asked(&words) {
+        Ok(asked) => exit(run_all(&asked)),
+        Err(why) => {
+            eprintln!("{why}; rides/ride --help says how it is called");
+            exit(FAULT)
         }
-        _ => stop(UNREADABLE, "usage: ride FILE TRIAL, ride --bytes FILE, or ride --tables"),
     }
 }

@@ -1,7 +1,7 @@
 //! Reads the text of a ride. docs/RIDES.md describes it.
 
-/// Cells in a row.
-const CELLS: usize = 16;
+use crate::link::CELLS;
+use crate::nearest;
 
 /// The trial counts its rows in one byte.
 const MOST_ROWS: usize = 255;
@@ -32,6 +32,16 @@ pub const EVENTS: [(&str, u8); 8] = [
     ("tick D", 8),
 ];
 
+/// The other lines.
+const OTHERS: [&str; 4] = ["event N A", "rows N", "row C", "row C C .. C"];
+
+/// Every line that a ride can have. Events come first: where a line is as near to one as to a limit, the event is named.
+pub fn forms() -> Vec<&'static str> {
+    let events = EVENTS.iter().map(|(form, _)| *form);
+    events.chain(LIMITS.iter().map(|(form, _)| *form)).chain(OTHERS).collect()
+}
+
+#[derive(Clone, Copy)]
 pub struct Event {
     pub line: usize,
     pub kind: u8,
@@ -44,14 +54,24 @@ pub struct Fault {
     pub text: String,
 }
 
+/// All that is wrong with a text, and whether a line has no form that there is.
+pub struct Faults {
+    pub list: Vec<Fault>,
+    pub unknown: bool,
+}
+
 #[derive(Default)]
 pub struct Ride {
     limits: [Option<u16>; 5],
-    cells: Vec<u16>,
+    pub cells: Vec<u16>,
     pub events: Vec<Event>,
+    /// The line of the first event, which may have a fault of its own.
+    begun: Option<usize>,
+    unknown: bool,
 }
 
-fn is_blank(word: &str) -> bool {
+/// Whether a word of a form stands for a number.
+pub fn is_blank(word: &str) -> bool {
     word.bytes().all(|b| b.is_ascii_uppercase())
 }
 
@@ -88,6 +108,18 @@ fn number(word: &str, most: u16) -> Result<u16, String> {
     }
 }
 
+/// The line is one of these forms without its number.
+fn lacks_number(words: &[&str]) -> Option<String> {
+    let limits = LIMITS.iter().copied();
+    let events = EVENTS.iter().map(|(form, _)| (*form, 255)).filter(|(form, _)| form.split(' ').any(is_blank));
+    for (form, most) in limits.chain(events).chain([("rows N", 255)]) {
+        if form.split(' ').filter(|word| !is_blank(word)).eq(words.iter().copied()) {
+            return Some(format!("`{form}` lacks its number, which is a whole one from 0 to {most}"));
+        }
+    }
+    None
+}
+
 fn byte(word: &str) -> Result<u8, String> {
     // `number` has held it to 255
     number(word, 255).map(|n| n as u8)
@@ -99,9 +131,9 @@ impl Ride {
     }
 
     fn before_events(&self) -> Result<(), String> {
-        match self.events.first() {
+        match self.begun {
             None => Ok(()),
-            Some(event) => Err(format!("limits and rows stand before the first event, which is in line {}", event.line)),
+            Some(line) => Err(format!("limits and rows stand before the first event, which is in line {line}")),
         }
     }
 
@@ -145,11 +177,12 @@ impl Ride {
         }
     }
 
-    fn add_event(&mut self, line: usize, kind: u8, argument: u8) -> Result<(), String> {
-        if self.events.is_empty() {
-            self.check_limits()?;
-        }
+    /// The first event ends the limits, even where it has a fault.
+    fn add_event(&mut self, line: usize, event: Result<(u8, u8), String>) -> Result<(), String> {
+        self.begun = self.begun.or(Some(line));
+        let (kind, argument) = event?;
         self.events.push(Event { line, kind, argument });
+        self.check_limits()?;
         let (before, now) = (self.length() - 2, self.length());
         if before <= MOST_BYTES && MOST_BYTES < now {
             return Err(format!("the trial takes at most {MOST_BYTES} bytes, and with this event there are {now}"));
@@ -170,6 +203,10 @@ impl Ride {
     }
 
     fn take(&mut self, line: usize, words: &[&str]) -> Result<(), String> {
+        // first, since `resend wait` also has the form `resend K`
+        if let Some(fault) = lacks_number(words) {
+            return Err(fault);
+        }
         for (at, (form, _)) in LIMITS.iter().enumerate() {
             if let Some(Some(word)) = matched(form, words) {
                 return self.set_limit(at, word);
@@ -177,21 +214,31 @@ impl Ride {
         }
         for (form, kind) in EVENTS {
             if let Some(word) = matched(form, words) {
-                let argument = word.map_or(Ok(0), byte)?;
-                return self.add_event(line, kind, argument);
+                return self.add_event(line, word.map_or(Ok(0), byte).map(|argument| (kind, argument)));
             }
         }
         match words {
             ["rows", n] => self.add_numbered(n),
             ["row", cells @ ..] => self.add_row(cells),
-            ["event", kind, argument] => self.add_event(line, byte(kind)?, byte(argument)?),
-            _ => Err(format!("no line of a ride: `{}`", words.join(" "))),
+            ["event", kind, argument] => self.add_event(line, byte(kind).and_then(|kind| Ok((kind, byte(argument)?)))),
+            _ => Err(self.no_line(words)),
         }
+    }
+
+    fn no_line(&mut self, words: &[&str]) -> String {
+        self.unknown = true;
+        let near = nearest::form(words, &forms()).map_or(String::new(), |form| format!("; the nearest is `{form}`"));
+        format!("no line of a ride: `{}`{near}", words.join(" "))
+    }
+
+    /// Window, data life, reply life, reply wait, resend wait.
+    pub fn limits(&self) -> [u16; 5] {
+        self.limits.map(|limit| limit.unwrap_or(0))
     }
 
     /// The input of the trial.
     pub fn bytes(&self) -> Vec<u8> {
-        let limit = |at: usize| self.limits[at].unwrap_or(0).to_le_bytes();
+        let limit = |at: usize| self.limits()[at].to_le_bytes();
         let mut bytes: Vec<u8> = (0..RESEND_WAIT).map(|at| limit(at)[0]).collect();
         bytes.extend(limit(RESEND_WAIT));
         bytes.push((self.cells.len() / CELLS) as u8);
@@ -201,23 +248,23 @@ impl Ride {
     }
 }
 
-/// The ride, or all that is wrong with its text.
-pub fn read(text: &str) -> Result<Ride, Vec<Fault>> {
+/// The ride, or all that is wrong with its text. A byte order mark in front is passed over.
+pub fn read(text: &str) -> Result<Ride, Faults> {
     let mut ride = Ride::default();
-    let mut faults = vec![];
+    let mut list = vec![];
     let mut last = 1;
-    for (at, line) in text.lines().enumerate() {
+    for (at, line) in text.trim_start_matches('\u{feff}').lines().enumerate() {
         last = at + 1;
         let said = line.split('#').next().unwrap_or("");
         let words: Vec<&str> = said.split_whitespace().collect();
         if !words.is_empty() {
-            faults.extend(ride.take(last, &words).err().map(|text| Fault { line: last, text }));
+            list.extend(ride.take(last, &words).err().map(|text| Fault { line: last, text }));
         }
     }
-    faults.extend(ride.check_limits().err().map(|text| Fault { line: last, text }));
-    if faults.is_empty() {
+    list.extend(ride.check_limits().err().map(|text| Fault { line: last, text }));
+    if list.is_empty() {
         Ok(ride)
     } else {
-        Err(faults)
+        Err(Faults { list, unknown: ride.unknown })
     }
 }
