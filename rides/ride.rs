@@ -82,9 +82,7 @@ fn by_library(asked: &Asked, file: &str, ride: &Ride) -> Result<String, Failure>
     let (told, drawn) = match run::run(ride) {
         Ok(run) if asked.brief => (brief::table(&ride.events, &brief::Answers::of(&run)), chart::drawn(name(file), &run)),
         Ok(run) => (story::told(&run), chart::drawn(name(file), &run)),
-        Err(Stop::Refused(answer)) => {
-            (brief::refused(answer), chart::drawn_refused(name(file), &ride.limits(), answer))
-        }
+        Err(Stop::Refused(answer)) => (brief::refused(answer), chart::drawn_refused(name(file), &ride.limits(), answer)),
         Err(Stop::Disagrees(why)) => return Err(no_run(format!("{file}: the library is not the proved one: {why}"))),
     };
     if let Some(path) = asked.chart {

@@ -105,8 +105,7 @@ impl Run {
     fn put(&mut self, event: &Event) -> Result<(), String> {
         let (before, counts) = (self.link.clone(), self.counts);
         let [sent, _, recorded] = counts.map(|count| count * CELLS);
-        let (answer, rises) =
-            self.link.step(event.kind, event.argument, &self.supply[sent..], &mut self.record[recorded..]);
+        let (answer, rises) = self.link.step(event.kind, event.argument, &self.supply[sent..], &mut self.record[recorded..]);
         self.counts = std::array::from_fn(|at| counts[at] + rises[at]);
         let fact = if answer == 0 { self.fact(event, &before, counts)? } else { Fact::Refused(answer) };
         self.check()?;

@@ -99,7 +99,9 @@ fn words(run: &Run, step: &Step) -> Vec<String> {
             let new = if new.is_empty() { "nothing new".to_string() } else { rows(new) };
             vec![format!("reply for {}: {new} acknowledged", number(reply)), oldest(&step.state)]
         }
-        Fact::Lost { message } if run.messages[*message].kind == Kind::Data => vec![format!("{} is lost in the air", row(message))],
+        Fact::Lost { message } if run.messages[*message].kind == Kind::Data => {
+            vec![format!("{} is lost in the air", row(message))]
+        }
         Fact::Lost { message } => vec![format!("the reply for {} is lost in the air", number(message))],
         Fact::Ticked { ticks, died, may_resend, too_late } => {
             let mut lines = vec![count((*ticks).into(), "tick passes", "ticks pass")];
@@ -161,7 +163,8 @@ fn aligned(lines: &[Vec<String>]) -> String {
     text
 }
 
-const HEAD: [&str; 10] = ["line", "event", "what happened", "sent", "ack", "rec", "air: data", "replies", "outstanding", "held"];
+const HEAD: [&str; 10] =
+    ["line", "event", "what happened", "sent", "ack", "rec", "air: data", "replies", "outstanding", "held"];
 
 /// The whole run.
 pub fn told(run: &Run) -> String {
