@@ -9,10 +9,10 @@ use crate::svg::{Anchor, Picture, BLACK, GREEN, GREY, LIGHT};
 use crate::text;
 
 const WIDTH: usize = 960;
-const MAT: usize = 310;
-const PAD: usize = 550;
+const MAT: usize = 316;
+const PAD: usize = 556;
 /// Where the numbers of lines end and the events begin.
-const EVENT: usize = 42;
+const EVENT: usize = 46;
 /// Between a line and its words.
 const GAP: usize = 12;
 /// Between a line and the head of an arrow, which leaves room for a mark on the line.
@@ -59,16 +59,15 @@ fn stopped(run: &Run, picture: &mut Picture, step: Option<usize>, y: usize) {
     };
     let (data, replies): (Vec<&Message>, Vec<&Message>) =
         run.messages.iter().filter(stops).partition(|m| m.kind == Kind::Data);
-    // where there are both, each kind has the half on its side
-    let middle = (MAT + PAD) / 2;
-    let both = !data.is_empty() && !replies.is_empty();
-    let (right, left) = if both { (middle, middle) } else { (PAD, MAT) };
-    let places = ends(data.len(), MAT, right).into_iter().chain(ends(replies.len(), PAD, left));
+    // where there are both, each kind has its share of the width, so that no mark touches another
+    let all = (data.len() + replies.len()).max(1);
+    let border = MAT + (PAD - MAT) * data.len() / all;
+    let places = ends(data.len(), MAT, border).into_iter().chain(ends(replies.len(), PAD, border));
     for (message, x) in data.into_iter().chain(replies).zip(places) {
         picture.message((side(message.kind), height_of(message.sent)), (x, y), message.kind == Kind::Reply, false);
         match message.end {
             Some(_) => picture.cross((x, y)),
-            None => picture.circle((x, y), "white", BLACK),
+            None => picture.circle((x, y), 3, "white", BLACK),
         }
     }
 }
@@ -117,7 +116,7 @@ fn happened(run: &Run, picture: &mut Picture, step: &Step, y: usize, time: usize
             right = Some(format!("reply {}: recorded", named(run, *reply)));
         }
         Fact::Acknowledged { rows, .. } => {
-            picture.circle((MAT, y), GREEN, GREEN);
+            picture.circle((MAT, y), 4, GREEN, GREEN);
             let rows: Vec<(usize, bool)> = rows.iter().map(|row| (*row, false)).collect();
             left = Some(format!("acknowledged {}", short(&rows, "")));
         }
@@ -145,8 +144,8 @@ fn legend(picture: &mut Picture) {
     picture.message((a, upper), (a + 30, upper), false, true);
     picture.message((b, upper), (b + 30, upper), true, true);
     picture.cross((c + 6, upper));
-    picture.circle((d + 6, upper), "white", BLACK);
-    picture.circle((a + 15, lower), GREEN, GREEN);
+    picture.circle((d + 6, upper), 3, "white", BLACK);
+    picture.circle((a + 15, lower), 4, GREEN, GREEN);
     picture.square((b + 15, lower), "white");
     picture.square((c + 6, lower), GREEN);
     for (x, y, words) in [

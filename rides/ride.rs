@@ -10,7 +10,6 @@ mod story;
 mod svg;
 mod text;
 
-use run::Stop;
 use std::io::{ErrorKind, Write};
 use std::process::exit;
 use text::Ride;
@@ -79,16 +78,19 @@ fn name(file: &str) -> &str {
 }
 
 fn by_library(asked: &Asked, file: &str, ride: &Ride) -> Result<String, Failure> {
-    let (told, drawn) = match run::run(ride) {
-        Ok(run) if asked.brief => (brief::table(&ride.events, &brief::Answers::of(&run)), chart::drawn(name(file), &run)),
-        Ok(run) => (story::told(&run), chart::drawn(name(file), &run)),
-        Err(Stop::Refused(answer)) => (brief::refused(answer), chart::drawn_refused(name(file), &ride.limits(), answer)),
-        Err(Stop::Disagrees(why)) => return Err(no_run(format!("{file}: the library is not the proved one: {why}"))),
-    };
+    let run = run::run(ride).map_err(|why| no_run(format!("{file}: the library is not the proved one: {why}")))?;
     if let Some(path) = asked.chart {
+        let drawn = match &run {
+            Ok(run) => chart::drawn(name(file), run),
+            Err(answer) => chart::drawn_refused(name(file), &ride.limits(), *answer),
+        };
         std::fs::write(path, drawn).map_err(|e| no_run(format!("{path}: {e}")))?;
     }
-    Ok(told)
+    Ok(match run {
+        Ok(run) if asked.brief => brief::table(&ride.events, &brief::Answers::of(&run)),
+        Ok(run) => story::told(&run),
+        Err(answer) => brief::refused(answer),
+    })
 }
 
 fn printed(asked: &Asked, file: &str) -> Result<Vec<u8>, Failure> {
@@ -164,7 +166,7 @@ fn main() {
     if words.iter().any(|word| ["--help", "-h"].contains(word)) {
         return print(USAGE.as_bytes(), 0);
     }
-    if words == ["--tables"] {
+    if words.contains(&"--tables") {
         return print(tables().as_bytes(), 0);
     }
     match asked(&words) {

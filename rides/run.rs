@@ -68,25 +68,21 @@ pub struct Run {
     pub steps: Vec<Step>,
 }
 
-/// Why there is no run.
-pub enum Stop {
-    /// The opening was refused.
-    Refused(u8),
-    /// The link shows something else than the events amount to.
-    Disagrees(String),
-}
-
-/// The run of the whole ride.
-pub fn run(ride: &Ride) -> Result<Run, Stop> {
-    let link = Link::open(ride.limits()).map_err(Stop::Refused)?;
+/// The run of the whole ride, or the number with which the opening was refused. The outer error says where the link shows
+/// something else than the events amount to.
+pub fn run(ride: &Ride) -> Result<Result<Run, u8>, String> {
+    let link = match Link::open(ride.limits()) {
+        Ok(link) => link,
+        Err(answer) => return Ok(Err(answer)),
+    };
     let supply = ride.cells.clone();
     let record = vec![0; supply.len()];
     let (counts, data, replies, messages, steps) = ([0; 3], vec![], vec![], vec![], vec![]);
     let mut run = Run { link, supply, record, counts, data, replies, messages, steps };
     for event in &ride.events {
-        run.put(event).map_err(|why| Stop::Disagrees(format!("line {}: {why}", event.line)))?;
+        run.put(event).map_err(|why| format!("line {}: {why}", event.line))?;
     }
-    Ok(run)
+    Ok(Ok(run))
 }
 
 impl Run {
@@ -168,9 +164,10 @@ impl Run {
             return Ok(Fact::Old { message, reply: self.add(Kind::Reply, row, row) });
         }
         let (held, timer, cells) = self.link.held(row);
-        let reply_wait = self.limits()[3];
-        if !held || timer != reply_wait || self.row(row) != Some(cells) {
-            return Err(format!("row {row} arrives, and the link neither holds nor answers it"));
+        let (recorded, reply_wait) = (self.counts[2], self.limits()[3]);
+        let awaited = (recorded..recorded + self.link.window()).contains(&row);
+        if !held || !awaited || timer != reply_wait || self.row(row) != Some(cells) {
+            return Err(format!("row {row} arrives, and the link neither answers it nor holds it as that row"));
         }
         Ok(Fact::Held { message, again: before.held(row).0 })
     }

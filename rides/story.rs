@@ -68,7 +68,7 @@ fn ticked(run: &Run, died: &[usize], may_resend: &[usize], too_late: &[usize]) -
     }
     if !replies.is_empty() {
         let covered: Vec<String> = replies.iter().map(|m| rows_of(run, *m)).collect();
-        lines.push(format!("{} died: {}", count(replies.len(), "reply", "replies"), covered.join(", ")));
+        lines.push(format!("{} died: for {}", count(replies.len(), "reply", "replies"), covered.join(", ")));
     }
     if !may_resend.is_empty() {
         lines.push(format!("{} may be sent again", rows(may_resend)));

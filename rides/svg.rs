@@ -41,12 +41,12 @@ impl Picture {
     }
 
     pub fn cross(&mut self, (x, y): (usize, usize)) {
-        let d = format!("M{} {}l8 8m0 -8l-8 8", x - 4, y - 4);
+        let d = format!("M{} {}l6 6m0 -6l-6 6", x - 3, y - 3);
         self.marks += &format!("<path d=\"{d}\" stroke=\"#c00\" stroke-width=\"2\" fill=\"none\"/>\n");
     }
 
-    pub fn circle(&mut self, (x, y): (usize, usize), fill: &str, stroke: &str) {
-        self.marks += &format!("<circle cx=\"{x}\" cy=\"{y}\" r=\"4\" fill=\"{fill}\" stroke=\"{stroke}\"/>\n");
+    pub fn circle(&mut self, (x, y): (usize, usize), r: usize, fill: &str, stroke: &str) {
+        self.marks += &format!("<circle cx=\"{x}\" cy=\"{y}\" r=\"{r}\" fill=\"{fill}\" stroke=\"{stroke}\"/>\n");
     }
 
     pub fn square(&mut self, (x, y): (usize, usize), fill: &str) {

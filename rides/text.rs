@@ -253,7 +253,7 @@ pub fn read(text: &str) -> Result<Ride, Faults> {
     let mut ride = Ride::default();
     let mut list = vec![];
     let mut last = 1;
-    for (at, line) in text.trim_start_matches('\u{feff}').lines().enumerate() {
+    for (at, line) in text.strip_prefix('\u{feff}').unwrap_or(text).lines().enumerate() {
         last = at + 1;
         let said = line.split('#').next().unwrap_or("");
         let words: Vec<&str> = said.split_whitespace().collect();

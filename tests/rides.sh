@@ -133,7 +133,8 @@ asks 1 "--chart and --bytes take one ride$help" "$here/ride" --chart "$here/char
 asks 1 "--chart, --trial and --bytes exclude each other$help" "$here/ride" --chart "$here/chart.svg" --trial target/bin/trial rides/quiet.ride
 asks 2 "$here/none/chart.svg: No such file or directory (os error 2)" "$here/ride" --chart "$here/none/chart.svg" rides/quiet.ride
 asks 2 "$here/none: No such file or directory (os error 2)" "$here/ride" --trial "$here/none" rides/quiet.ride
-asks 2 '/bin/true printed something else than answers:' "$here/ride" --trial /bin/true rides/quiet.ride
+printf '#!/bin/sh\ncat >/dev/null\n' >"$here/silent" && chmod +x "$here/silent"
+asks 2 "$here/silent printed something else than answers:" "$here/ride" --trial "$here/silent" rides/quiet.ride
 
 # The first build says what it does, and why it failed. Commands that build nothing stand in for rt and rustc.
 fresh=$PWD/$here/fresh
@@ -172,6 +173,8 @@ printf '%srow 5\nsend\ndata 0 arrives\nreply\nreply 0 arrives\n' "$limits" >"$he
 while IFS= read -r line; do
     grep -qxF "$line" docs/RIDES.md || fails "docs/RIDES.md lacks: $line"
 done <"$here/tables"
+sed -n '/^    line  event .*held$/,/^$/s/^    //p' docs/RIDES.md >"$here/excerpt"
+[ -s "$here/excerpt" ] && ! grep -vxFf rides/loss-and-resend.out "$here/excerpt" || fails 'docs/RIDES.md: lines that rides/loss-and-resend.out lacks'
 diff <(sed -n 's/^| \([0-9]*\) | `\([A-Za-z]*\)` .*/\2 \1/p' "$here/tables") \
     <(sed -n 's/^ *Answer::\([A-Za-z]*\) => \([0-9]*\),$/\1 \2/p' crates/limits/src/answer.rt) || fails 'crates/limits has other numbers'
 
