@@ -44,7 +44,7 @@ struct Asked<'a> {
     files: Vec<&'a str>,
 }
 
-/// Who reads the output may stop when he has enough; that is no fault.
+/// A reader of the output may stop early, as `head` does; that is no fault.
 fn print(bytes: &[u8], status: i32) {
     let mut stdout = std::io::stdout();
     match stdout.write_all(bytes).and_then(|()| stdout.flush()) {
@@ -78,7 +78,7 @@ fn name(file: &str) -> &str {
 }
 
 fn by_library(asked: &Asked, file: &str, ride: &Ride) -> Result<String, Failure> {
-    let run = run::run(ride).map_err(|why| no_run(format!("{file}: the library is not the proved one: {why}")))?;
+    let run = run::run(ride).map_err(|why| no_run(format!("{file}: {why}")))?;
     if let Some(path) = asked.chart {
         let drawn = match &run {
             Ok(run) => chart::drawn(name(file), run),

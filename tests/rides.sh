@@ -147,7 +147,7 @@ printf '#!/bin/sh\ncp ../ride target/rides/ride\n' >"$fresh/bin/rustc"
 chmod +x "$fresh/bin/rt" "$fresh/bin/rustc"
 asks 2 "$(lines "$says" refused 'rides/ride: failed: rt staticlib exports')" env PATH="$fresh/bin:$PATH" "$fresh/rides/ride" rides/quiet.ride
 printf '#!/bin/sh\nmkdir -p target/staticlib && echo >target/staticlib/libexports.a\n' >"$fresh/bin/rt"
-asks 0 "$(lines "$says" 'rides/ride: builds the program, which takes some seconds (output: target/rides/log)')" \
+asks 0 "$(lines "$says" 'rides/ride: builds the program, which takes some seconds (output: target/rides/rustc.log)')" \
     env PATH="$fresh/bin:$PATH" "$fresh/rides/ride" rides/quiet.ride
 cmp rides/quiet.out "$here/out" || fails 'the first build: prints something else'
 asks 0 '' env PATH="$fresh/bin:$PATH" "$fresh/rides/ride" rides/quiet.ride
@@ -160,7 +160,7 @@ printf '%s\n' '#include <stdint.h>' 'uint8_t matlink_lent_open(uint16_t *head) {
 cc -c -o "$wrong/wrong.o" "$wrong/wrong.c"
 ar rcs "$wrong/libexports.a" "$wrong/wrong.o"
 rustc --edition 2021 -L native="$wrong" -o "$wrong/ride" rides/ride.rs
-asks 2 'rides/quiet.ride: the library is not the proved one: line 9: the link shows 0 data messages and 0 replies, and by the events there are 1 and 0' \
+asks 2 'rides/quiet.ride: line 9: the link shows 0 data messages and 0 replies, and by the events there are 1 and 0' \
     "$wrong/ride" rides/quiet.ride
 
 # The bytes of the paper's example
