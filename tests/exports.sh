@@ -4,7 +4,7 @@
 set -euo pipefail
 here=target/exports
 mkdir -p "$here"
-rt staticlib exports >"$here/log" 2>&1 || { tail -n 20 "$here/log"; exit 1; }
+c/library >"$here/log" 2>&1 || { tail -n 20 "$here/log"; exit 1; }
 
 # compile STANDARD FILE: the object of one file
 compile() {

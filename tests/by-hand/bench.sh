@@ -4,7 +4,7 @@ set -euo pipefail
 cd "$(dirname "$0")/../.."
 out=target/bench
 mkdir -p "$out"
-rt staticlib exports >"$out/log" 2>&1 || { tail -n 20 "$out/log"; exit 1; }
+c/library >"$out/log" 2>&1 || { tail -n 20 "$out/log"; exit 1; }
 library=target/staticlib/libexports.a
 sum=$(sha256sum "$library" | cut -c 1-16)
 RUSTFLAGS="-L native=$PWD/target/staticlib -C metadata=$sum" CARGO_TARGET_DIR=second/target/proved \
