@@ -3,5 +3,5 @@
 set -euo pipefail
 mkdir -p target
 rt check framecheck >target/framecheck.log 2>&1 || { tail -n 20 target/framecheck.log; exit 1; }
-cargo build --quiet --release --offline --manifest-path second/Cargo.toml
-second/target/release/frames target/bin/framecheck
+bash second/cargo.sh build --bins
+second/target/proved/release/frames target/bin/framecheck

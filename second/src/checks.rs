@@ -1,62 +1,78 @@
-//! What is put to the proved library: random lists, all short lists, bad limits, made-up links, numbers that are too wide.
+//! What is put to the proved library: random lists, all short lists, bad limits, numbers that are too wide.
 
 use crate::compare::{different, Call, Case};
-use crate::differ::{difference, ride_difference, Pair};
-use crate::draw::{random_case, random_limits, sound_link};
+use crate::differ::{difference, ride_difference};
+use crate::draw::{random_case, random_limits};
 use crate::library::{Lent, Library};
 use crate::limits::{Limits, CELLS};
-use crate::matlink::{Matlink, NUMBERS};
-use crate::random::Random;
+use crate::matlink::Matlink;
+use crate::report::{Outcome, Replay};
 use crate::short::{all_short, Compared, EVENTS};
-use crate::shrink::{flat, shortest, shown};
+use crate::shrink::{flat, shortest};
+use crate::threads::{items, seeds, Amount};
 
-/// What was compared, or the first difference.
-pub type Outcome = Result<String, String>;
-
-/// A difference with its seed and the shortest list it can be cut to.
-fn report(library: &dyn Library, what: &str, case: Case) -> String {
-    let fails = |case: &Case| case.limits.accept().is_ok() && difference(library, case).is_some();
-    let cut = if fails(&case) { shortest(case, &fails) } else { case };
-    format!("{what}: {}\n{}", difference(library, &cut).unwrap_or_default(), shown(&cut))
+/// A list through calls, and where that shows nothing in one ride.
+fn list_difference(library: &dyn Library, case: &Case) -> Option<String> {
+    let whole_ride = || {
+        let events: Vec<u8> = flat(&case.calls).into_iter().flat_map(|(kind, argument)| [kind, argument]).collect();
+        ride_difference(library, case, &events, events.len() / 2)
+    };
+    difference(library, case).or_else(whole_ride)
 }
 
+/// A difference and the shortest list it can be cut to, as a ride.
+fn cut(library: &dyn Library, case: Case) -> (String, Case) {
+    let fails = |case: &Case| case.limits.accept().is_ok() && list_difference(library, case).is_some();
+    let cut = if fails(&case) { shortest(case, &fails) } else { case };
+    (list_difference(library, &cut).unwrap_or_default(), cut)
+}
+
+/// Lists, calls and events that were compared.
+type Lists = [u64; 3];
+
 /// Seeded lists cut into runs and calls for one event, and each in one ride.
-pub fn random_lists(library: &dyn Library, seeds: u64) -> Outcome {
-    let (mut events, mut calls) = (0, 0);
-    for seed in 0..seeds {
+pub fn random_lists(library: &dyn Library, replay: &Replay, amount: Amount) -> Outcome {
+    let counted = seeds(amount, |seed, counted: &mut Lists| {
         let case = random_case(seed);
-        if difference(library, &case).is_some() {
-            return Err(report(library, &format!("library, seed {seed}"), case));
-        }
         let list: Vec<u8> = flat(&case.calls).into_iter().flat_map(|(kind, argument)| [kind, argument]).collect();
         // the odd count and the short buffer come now and then
         let (odd, short) = (usize::from(seed % 50 == 3), usize::from(seed % 50 == 4));
-        let (bytes, answers) =
-            (&list[..list.len() - odd], (list.len() / 2).saturating_sub(short) + (seed % 3) as usize * (1 - short));
-        if let Some(text) = ride_difference(library, &case, bytes, answers) {
-            return Err(format!("library, ride of seed {seed}: {text}\n{}", shown(&case)));
+        let bytes = &list[..list.len() - odd];
+        let answers = (list.len() / 2).saturating_sub(short) + (seed % 3) as usize * (1 - short);
+        let (events, calls) = (list.len() as u64 / 2, case.calls.len() as u64);
+        if difference(library, &case).is_some() {
+            let (found, case) = cut(library, case);
+            return Err(replay.failed_ride("lists", seed, &found, &case));
         }
-        events += list.len() / 2;
-        calls += case.calls.len();
-    }
-    Ok(format!("library: {seeds} random lists in {calls} calls and {seeds} rides, {events} events"))
+        if let Some(found) = ride_difference(library, &case, bytes, answers) {
+            let (shorter, case) = cut(library, case);
+            let found = if shorter.is_empty() { found } else { shorter };
+            return Err(replay.failed_ride("lists", seed, &found, &case));
+        }
+        *counted = [counted[0] + 1, counted[1] + calls, counted[2] + events];
+        Ok(events)
+    })?;
+    let [lists, calls, events] = counted.into_iter().fold([0; 3], |sum, more| [0, 1, 2].map(|at| sum[at] + more[at]));
+    Ok(format!("library: {lists} random lists in {calls} calls and {lists} rides, {events} events"))
 }
 
 /// All short lists, for windows and times 1 and 2.
-pub fn short_lists(library: &dyn Library, length: usize) -> Outcome {
-    let mut total = Compared::default();
-    for short in all_short(length) {
-        let compared = short.compare(library).map_err(|case| report(library, "library, short lists", case))?;
-        total.lists += compared.lists;
-        total.calls += compared.calls;
-    }
-    let Compared { lists, calls } = total;
+pub fn short_lists(library: &dyn Library, replay: &Replay, length: usize) -> Outcome {
+    let counted = items(&all_short(length), |short, total: &mut Compared| {
+        let compared = short.compare(library).map_err(|case| {
+            let (found, case) = cut(library, case);
+            replay.failed_ride("short-lists", 0, &found, &case)
+        })?;
+        *total = total.and(compared);
+        Ok(())
+    })?;
+    let Compared { lists, calls } = counted.into_iter().fold(Compared::default(), Compared::and);
     let events = EVENTS.len();
     Ok(format!("library: all {lists} lists of {length} of {events} events, by {calls} calls: lists to the same state go on together"))
 }
 
 /// Limits at and beyond every edge, each with an opening, a call for one event, a run and a ride.
-pub fn openings(library: &dyn Library) -> Outcome {
+pub fn openings(library: &dyn Library, replay: &Replay, amount: Amount) -> Outcome {
     let mut all = vec![];
     for window in (0..=34).chain([255, 256, 65_536, usize::MAX]) {
         for time in [0, 1, 250, 251, 65_535] {
@@ -67,7 +83,7 @@ pub fn openings(library: &dyn Library) -> Outcome {
         }
     }
     let mut limits: Vec<Limits> = all.iter().map(|[a, b, c]| limits_of(a.0, [a.1, b.1, c.1], a.2)).collect();
-    let mut random = Random::new(5);
+    let mut random = amount.random();
     for _ in 0..5000 {
         let mut drawn = random_limits(&mut random);
         if random.once_in(2) {
@@ -80,8 +96,8 @@ pub fn openings(library: &dyn Library) -> Outcome {
         let calls = vec![Call::One { kind: 1, argument: 0 }, Call::Run { events: vec![3, 0, 4, 0], answers: 2 }];
         let case = Case { limits, supply: vec![7; CELLS], record: vec![8; CELLS], calls };
         let found = difference(library, &case).or_else(|| ride_difference(library, &case, &[1, 0, 3, 0], 2));
-        if let Some(text) = found {
-            return Err(format!("library, opening: {text}\n{}", shown(&case)));
+        if let Some(found) = found {
+            return Err(replay.failed_ride("openings", amount.seed, &found, &case));
         }
         opened += usize::from(limits.accept().is_ok());
     }
@@ -90,57 +106,6 @@ pub fn openings(library: &dyn Library) -> Outcome {
 
 fn limits_of(window: usize, times: [u16; 3], resend_wait: u16) -> Limits {
     Limits { window, data_life: times[0], reply_life: times[1], reply_wait: times[2], resend_wait }
-}
-
-/// One event, or a run of three, on a given link.
-fn on_link(library: &dyn Library, link: &Matlink, random: &mut Random, met: &mut [u64; 256]) -> Result<(), String> {
-    let event = |random: &mut Random| [1 + random.below(8) as u8, random.one_of(&[0, 0, 1, 2, 31, 255])];
-    let supply = vec![9; CELLS * random.below(3)];
-    let record = vec![8; random.below(40) * CELLS + random.below(2)];
-    let [kind, argument] = event(random);
-    let call = if random.once_in(3) {
-        Call::Run { events: [event(random), event(random), event(random)].concat(), answers: 3 }
-    } else {
-        Call::One { kind, argument }
-    };
-    let (answer, found) = Pair::made_up(link.clone(), &record).call(library, &call, &supply);
-    met[usize::from(answer)] += 1;
-    found.map_or(Ok(()), |text| Err(format!("{text}\n{call:?} on {link:?}")))
-}
-
-/// Sound links that no list need reach: questions 13, 18 and 19 arise here.
-pub fn made_up_links(library: &dyn Library, count: u64) -> Outcome {
-    let mut met = [0; 256];
-    for seed in 0..count {
-        let mut random = Random::new(seed);
-        let link = Matlink::from(&sound_link(&mut random));
-        for _ in 0..8 {
-            on_link(library, &link, &mut random, &mut met)
-                .map_err(|text| format!("library, made-up link of seed {seed}: {text}"))?;
-        }
-    }
-    let rare = [13, 18, 19].map(|number| met[number]);
-    Ok(format!("library: {} calls on {count} made-up sound links; answers 13, 18, 19: {rare:?} times", 8 * count))
-}
-
-/// Sound links with each number replaced by others: question 4 of every number there is, and marks other than 0 and 1.
-pub fn damaged_links(library: &dyn Library, count: u64) -> Outcome {
-    let (mut met, mut links) = ([0; 256], 0);
-    for seed in 0..count {
-        let mut random = Random::new(seed);
-        let good = Matlink::from(&sound_link(&mut random)).numbers();
-        for at in 0..NUMBERS {
-            for value in [0, 1, 2, 32, 33, 64, 250, 256, 257, 4095, 4096, 65_535, good[at].wrapping_add(1)] {
-                let mut numbers = good.clone();
-                numbers[at] = value;
-                let what = || format!("library, link of seed {seed} with number {at} as {value}");
-                on_link(library, &Matlink::of_numbers(&numbers), &mut random, &mut met)
-                    .map_err(|text| format!("{}: {text}", what()))?;
-                links += 1;
-            }
-        }
-    }
-    Ok(format!("library: {links} links with one number replaced, {} of them not sound", met[4]))
 }
 
 /// Numbers wider than a link has: a limit above 65,535 is refused as 65,535 is, and an event that is not two bytes answers 8.

@@ -5,6 +5,8 @@ use crate::compare::{different, Call, Case};
 use crate::library::{asked, rises, Lent, Library};
 use crate::limits::{number, Limits, Refusal, CELLS};
 use crate::matlink::{without_free, Matlink};
+use crate::members::{members, name, named};
+use crate::ride_text::words;
 
 /// What stands in a lent buffer that nothing must write.
 const BLANK: u16 = 0xAAAA;
@@ -50,8 +52,8 @@ impl Pair {
         let (opened, link) = Link::open(limits);
         let fresh = Matlink::from(&link);
         pair.link = link;
-        let found = different(answer, number(&opened), || format!("opening with {limits:?}"))
-            .or_else(|| different(&pair.kept.link, &fresh, || "opened link".into()))
+        let found = answer_difference(answer, &opened, || format!("opening with {limits:?}"))
+            .or_else(|| members(&pair.kept.link, &fresh).map(|text| format!("opened link\n{text}")))
             .or_else(|| pair.behind());
         (pair, answer, found)
     }
@@ -88,47 +90,82 @@ impl Pair {
                 let lent = Lent { events, supply: rest, record, answers: &mut proved, counts: three };
                 let answer = library.run(&mut self.kept.link, lent);
                 let expected = self.link.run(events, rest, &mut self.expected[at..], &mut here);
-                (answer, expected, different(proved, here, || "answer buffer".into()))
+                (answer, expected, answers_difference(&proved, &here, events))
             }
         };
-        let found = different(answer, number(&expected), || format!("number of {call:?}"))
+        let found = answer_difference(answer, &expected, || call_words(call))
             .or(found)
             .or_else(|| counts_difference(&counts, &expected))
-            .or_else(|| different(&self.record, &self.expected, || "record".into()))
+            .or_else(|| record_difference(&self.record, &self.expected))
             .or_else(|| self.behind())
             .or_else(|| match expected {
                 Ok(_) => self.link_difference(),
-                Err(_) => different(&self.kept, &before, || "link of a refused call".into()),
+                Err(_) if self.kept == before => None,
+                Err(_) => members(&self.kept.link, &before.link).map(|text| format!("link of a refused call\n{text}")),
             });
         self.total.add(expected.unwrap_or_default());
         (answer, found)
     }
 
-    /// Both links, but for what is free.
+    /// Both links, but for what is free. The single numbers come first, as they say what is free.
     fn link_difference(&self) -> Difference {
-        let proved = Link::from(&self.kept.link);
-        if !proved.sound() {
-            return Some(format!("the kept link is not sound: {proved:?}"));
+        let kept = &self.kept.link;
+        if let Some(text) = named(&kept.head(), &Matlink::from(&self.link).head(), name) {
+            return Some(text);
         }
-        // a number of a place that is free may have 16 bits, which a byte here stands for
-        let fits = |(kept, link): (u16, u16)| kept == link || (link == 255 && kept > 255);
-        if !self.kept.link.numbers().into_iter().zip(Matlink::from(&proved).numbers()).all(fits) {
-            return Some("the kept link has numbers that no link has".into());
-        }
+        let proved = Link::from(kept);
         let (p, e) = (without_free(&proved), without_free(&self.link));
-        different(p.limits, e.limits, || "limits".into())
-            .or_else(|| different(p.mat, e.mat, || "mat".into()))
-            .or_else(|| different(p.pad, e.pad, || "pad".into()))
-            .or_else(|| different(p.data, e.data, || "data table".into()))
-            .or_else(|| different(p.replies, e.replies, || "reply table".into()))
+        if p != e {
+            return members(&Matlink::from(&p), &Matlink::from(&e));
+        }
+        let bad_mark = |mark: &u16| *mark > 1;
+        if kept.mat_mark.iter().chain(&kept.pad_mark).any(bad_mark) {
+            return Some(format!("marks other than 0 and 1: {:?} {:?}", kept.mat_mark, kept.pad_mark));
+        }
+        // of what is free, question 4 asks about these alone
+        let long = (0..p.limits.window).find(|place| proved.pad.timers[*place] > p.limits.reply_wait);
+        let long = long.map(|place| format!("pad_timer[{place}] of a row not held is above the reply wait"));
+        long.or_else(|| (!proved.sound()).then(|| "the library's link is not sound".into()))
     }
+}
+
+/// The call in words.
+fn call_words(call: &Call) -> String {
+    match call {
+        Call::One { kind, argument } => format!("event `{}`", words(*kind, *argument)),
+        Call::Run { events, answers } => format!("run of {} bytes with {answers} answers", events.len()),
+    }
+}
+
+/// The number of a call.
+fn answer_difference<T>(answer: u8, expected: &Result<T, Refusal>, what: impl Fn() -> String) -> Difference {
+    let expected = number(expected);
+    (answer != expected).then(|| format!("{}: library answers {answer}, expected {expected}", what()))
+}
+
+/// The answers of a run's events.
+fn answers_difference(library: &[u8], expected: &[u8], events: &[u8]) -> Difference {
+    let name = |at: usize| match events.get(2 * at..2 * at + 2) {
+        Some(event) => format!("answer {at}, to `{}`", words(event[0], event[1])),
+        None => format!("answer buffer [{at}]"),
+    };
+    named(library, expected, name)
+}
+
+/// The whole record buffer.
+fn record_difference(library: &[u16], expected: &[u16]) -> Difference {
+    if library == expected {
+        return None;
+    }
+    named(library, expected, |at| format!("record[{at}] (row {}, cell {})", at / CELLS, at % CELLS))
 }
 
 /// Three counts, 0 where the call was refused; the numbers behind them stay.
 fn counts_difference(counts: &[usize], expected: &Result<Counts, Refusal>) -> Difference {
     let mut all = [NO_COUNT; 3 + BEHIND];
     all[..3].copy_from_slice(&rises(expected.unwrap_or_default()));
-    different(counts, &all[..], || "counts".into())
+    let names = ["sent", "acknowledged", "recorded", "number behind the counts", "number behind the counts"];
+    named(counts, &all, |at| names[at].into())
 }
 
 /// The first difference on a case, whose opening may be refused: its calls then meet question 4.
@@ -137,7 +174,7 @@ pub fn difference(library: &dyn Library, case: &Case) -> Difference {
     found.or_else(|| {
         case.calls.iter().enumerate().find_map(|(at, call)| {
             let (_, found) = pair.call(library, call, &case.supply);
-            found.map(|text| format!("after call {at}: {text}"))
+            found.map(|text| format!("after call {}: {text}", at + 1))
         })
     })
 }
@@ -152,8 +189,9 @@ pub fn ride_difference(library: &dyn Library, case: &Case, events: &[u8], answer
     let answer = library.ride(asked(case.limits), lent);
     let (opened, mut link) = Link::open(case.limits);
     let done = opened.and_then(|_| link.run(events, &case.supply, &mut expected, &mut here));
-    different(answer, number(&done), || "number of the ride".into())
-        .or_else(|| different(proved, here, || "answer buffer of the ride".into()))
-        .or_else(|| different(record, expected, || "record of the ride".into()))
-        .or_else(|| counts_difference(&counts, &done).map(|text| format!("ride: {text}")))
+    answer_difference(answer, &done, || "ride".into())
+        .or_else(|| answers_difference(&proved, &here, events))
+        .or_else(|| record_difference(&record, &expected))
+        .or_else(|| counts_difference(&counts, &done))
+        .map(|text| format!("in one ride: {text}"))
 }

@@ -1,8 +1,7 @@
-//! Random lists and random links, the same for the same seed.
+//! Random lists, the same for the same seed.
 
-use crate::built::{Data, Link, Reply};
 use crate::compare::{rows, Call, Case};
-use crate::limits::{Limits, CELLS, LARGEST_WINDOW, TABLE_PLACES};
+use crate::limits::{Limits, CELLS};
 use crate::random::Random;
 use crate::unbounded::Ends;
 
@@ -139,72 +138,4 @@ pub fn random_case(seed: u64) -> Case {
     let record = (0..space).map(|_| random.next() as u16).collect();
     let events = random_events(&mut random, limits, &supply, space);
     Case { limits, supply, record, calls: cut(&mut random, &events) }
-}
-
-/// Any sound link: each field is drawn from all that question 4 lets pass, with anything at all where it does not look.
-pub fn sound_link(random: &mut Random) -> Link {
-    let w = 1 + random.one_of(&[1, 2, 4, 32]);
-    let window = 1 + random.below(w - 1);
-    let mut time = || 1 + random.below(250) as u16;
-    let (data_life, reply_life, reply_wait) = (time(), time(), time());
-    let (_, mut link) = Link::open(Limits { window, data_life, reply_life, reply_wait, resend_wait: 0 });
-    for place in 0..LARGEST_WINDOW {
-        draw_place(random, &mut link, place);
-    }
-    draw_numbers(random, &mut link);
-    let most = random.one_of(&[3, 33]);
-    link.data.count = TABLE_PLACES.saturating_sub(random.below(most));
-    link.replies.count = TABLE_PLACES.saturating_sub(random.below(most));
-    for place in 0..TABLE_PLACES {
-        draw_messages(random, &mut link, place);
-    }
-    link
-}
-
-/// One place of the mat and of the pad, with illegal cells where the pad holds no row.
-fn draw_place(random: &mut Random, link: &mut Link, place: usize) {
-    let Link { limits, mat, pad, .. } = link;
-    let row = [0; CELLS].map(|_: u16| random.below(4096) as u16);
-    (mat.rows[place], pad.rows[place]) = (row, row);
-    mat.timers[place] = random.below(usize::from(limits.resend_wait) + 1) as u16 * random.below(2) as u16;
-    pad.timers[place] = random.below(usize::from(limits.reply_wait) + 1) as u16;
-    pad.held[place] = random.once_in(2);
-    if place >= limits.window {
-        mat.marked[place] = random.once_in(2);
-        mat.timers[place] = random.next() as u16;
-        pad.timers[place] = random.next() as u16;
-        mat.rows[place] = [65535; CELLS];
-    } else if !pad.held[place] {
-        pad.rows[place] = [65535; CELLS];
-    }
-}
-
-/// The numbers, marks on outstanding rows but the oldest, and illegal cells in rows that are not outstanding.
-fn draw_numbers(random: &mut Random, link: &mut Link) {
-    let w = link.limits.window;
-    let (oldest, outstanding) = (random.below(2 * w), random.below(w + 1));
-    link.mat.oldest = oldest as u8;
-    link.mat.next = ((oldest + outstanding) % (2 * w)) as u8;
-    link.pad.wanted = random.below(2 * w) as u8;
-    for k in 1..outstanding {
-        link.mat.marked[(oldest + k) % w] = random.once_in(2);
-    }
-    for k in outstanding..w {
-        link.mat.rows[(oldest + k) % w] = [4096; CELLS];
-    }
-}
-
-/// One place of each table: a message that passes question 4, or behind the count one that does not.
-fn draw_messages(random: &mut Random, link: &mut Link, place: usize) {
-    let (w, oldest) = (link.limits.window, usize::from(link.mat.oldest));
-    let row = [random.below(4096) as u16; CELLS];
-    let number = random.below(2 * w) as u8;
-    let life = 1 + random.below(usize::from(link.limits.data_life)) as u16;
-    let none = Data { number: 255, life: 0, row: [65535; CELLS] };
-    link.data.messages[place] = if place < link.data.count { Data { number, life, row } } else { none };
-    let first = if random.once_in(2) { random.below(2 * w) } else { oldest };
-    let last = ((first + random.below(w)) % (2 * w)) as u8;
-    let life = 1 + random.below(usize::from(link.limits.reply_life)) as u16;
-    let none = Reply { first: 255, last: 0, life: 0 };
-    link.replies.messages[place] = if place < link.replies.count { Reply { first: first as u8, last, life } } else { none };
 }

@@ -1,6 +1,5 @@
 //! The proved frame reader and writer, as the library has them, compared with the ones here.
 
-use crate::checks::Outcome;
 use crate::compare::different;
 use crate::differ::Difference;
 use crate::frame_lists::{damaged, edges, small};
@@ -8,7 +7,8 @@ use crate::frames::{read, write};
 use crate::library::FrameLibrary;
 use crate::limits::{number, Refusal, CELLS};
 use crate::matlink::MatlinkFrame;
-use crate::random::Random;
+use crate::report::{Outcome, Replay};
+use crate::threads::Amount;
 
 /// What stands in a lent frame before a call.
 const BLANK: u16 = 0xAAAA;
@@ -40,9 +40,9 @@ fn writing_difference(library: &dyn FrameLibrary, frame: &MatlinkFrame, length: 
 }
 
 /// Reads every frame; writes every accepted one again, into buffers of all lengths about its own.
-pub fn readings(library: &dyn FrameLibrary) -> Outcome {
+pub fn readings(library: &dyn FrameLibrary, replay: &Replay, amount: Amount) -> Outcome {
     let mut frames = edges();
-    frames.extend(damaged(&mut Random::new(1)));
+    frames.extend(damaged(&mut amount.random()));
     frames.extend(small());
     let (mut accepted, mut written) = (0, 0);
     for bytes in &frames {
@@ -54,7 +54,7 @@ pub fn readings(library: &dyn FrameLibrary) -> Outcome {
             lengths.into_iter().find_map(|length| writing_difference(library, &MatlinkFrame::from(&frame), length))
         });
         if let Some(text) = found.or(again) {
-            return Err(format!("library, frame {bytes:?}: {text}"));
+            return Err(replay.failed("readings", amount.seed, &format!("frame {bytes:?}: {text}")));
         }
     }
     let count = frames.len();
@@ -62,8 +62,8 @@ pub fn readings(library: &dyn FrameLibrary) -> Outcome {
 }
 
 /// Writes frames with values at and beyond every edge, with anything where their kind does not look.
-pub fn writings(library: &dyn FrameLibrary, count: u64) -> Outcome {
-    let mut random = Random::new(9);
+pub fn writings(library: &dyn FrameLibrary, replay: &Replay, amount: Amount, count: u64) -> Outcome {
+    let mut random = amount.random();
     let mut accepted = 0;
     for _ in 0..count {
         let window: u16 = random.one_of(&[0, 1, 2, 31, 32, 33, 255, 256, 257, 65_535]);
@@ -79,7 +79,7 @@ pub fn writings(library: &dyn FrameLibrary, count: u64) -> Outcome {
         let frame = MatlinkFrame { kind, life, window, number, last, cell };
         let length = random.one_of(&[0, 4, 5, 6, 35, 36, 37, 60]);
         if let Some(text) = writing_difference(library, &frame, length) {
-            return Err(format!("library, {frame:?} into {length} bytes: {text}"));
+            return Err(replay.failed("writings", amount.seed, &format!("{frame:?} into {length} bytes: {text}")));
         }
         accepted += usize::from(written(&frame, &mut vec![0; length]).is_ok());
     }

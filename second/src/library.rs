@@ -32,7 +32,7 @@ pub struct Lent<'a> {
 }
 
 /// The calls for a link that the caller keeps. Each gives the number of its answer.
-pub trait Library {
+pub trait Library: Sync {
     /// Opens a link.
     fn open(&self, link: &mut Matlink, asked: Asked) -> u8;
 
@@ -47,7 +47,7 @@ pub trait Library {
 }
 
 /// The calls for frames. Each gives the number of its answer; the writer also gives the count of bytes.
-pub trait FrameLibrary {
+pub trait FrameLibrary: Sync {
     /// Reads a frame.
     fn read_frame(&self, bytes: &[u8], out: &mut MatlinkFrame) -> u8;
 

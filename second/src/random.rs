@@ -6,7 +6,7 @@ pub struct Random(u64);
 impl Random {
     /// Any seed will do: it is spread first, and the state 0, which would stay, is left out.
     pub fn new(seed: u64) -> Random {
-        Random((seed + 1).wrapping_mul(0x9E37_79B9_7F4A_7C15) | 1)
+        Random(seed.wrapping_add(1).wrapping_mul(0x9E37_79B9_7F4A_7C15) | 1)
     }
 
     /// 64 bits.

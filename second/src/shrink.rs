@@ -1,6 +1,7 @@
 //! Cutting a failing case to a short one.
 
 use crate::compare::{ones, Call, Case};
+use crate::limits::CELLS;
 
 /// The events of all calls. Runs that are refused add events here: the caller tries whether the case still fails.
 pub fn flat(calls: &[Call]) -> Vec<(u8, u8)> {
@@ -25,8 +26,10 @@ pub fn shortest(mut case: Case, fails: &dyn Fn(&Case) -> bool) -> Case {
     loop {
         let before = case.clone();
         fewer_calls(&mut case, fails);
+        fewer_ticks(&mut case, fails);
         smaller_arguments(&mut case, fails);
         smaller_limits(&mut case, fails);
+        simple_rows(&mut case, fails);
         if case == before {
             return case;
         }
@@ -93,6 +96,19 @@ fn fewer_calls(case: &mut Case, fails: &dyn Fn(&Case) -> bool) {
     }
 }
 
+/// Two ticks in a row become one.
+fn fewer_ticks(case: &mut Case, fails: &dyn Fn(&Case) -> bool) {
+    for at in (1..case.calls.len()).rev() {
+        let [Call::One { kind: 8, argument: a }, Call::One { kind: 8, argument: b }] = case.calls[at - 1..=at] else {
+            continue;
+        };
+        attempt(case, fails, |case| {
+            case.calls[at - 1] = Call::One { kind: 8, argument: a.saturating_add(b) };
+            case.calls.remove(at);
+        });
+    }
+}
+
 fn smaller_arguments(case: &mut Case, fails: &dyn Fn(&Case) -> bool) {
     for at in 0..case.calls.len() {
         let Call::One { kind, argument } = case.calls[at] else { continue };
@@ -113,21 +129,22 @@ fn smaller_limits(case: &mut Case, fails: &dyn Fn(&Case) -> bool) {
         attempt(case, fails, |case| case.limits.reply_life = (case.limits.reply_life / 2).max(1));
         attempt(case, fails, |case| case.limits.reply_wait = (case.limits.reply_wait / 2).max(1));
         attempt(case, fails, |case| case.limits.resend_wait = 0);
-        attempt(case, fails, |case| case.supply.truncate(case.supply.len() / 32 * 16));
-        attempt(case, fails, |case| case.record.truncate(case.record.len() / 32 * 16));
     }
 }
 
-/// How a failing case is shown.
-pub fn shown(case: &Case) -> String {
-    let list: Vec<String> = case
-        .calls
-        .iter()
-        .map(|call| match call {
-            Call::One { kind, argument } => format!("{kind} {argument}"),
-            Call::Run { events, answers } => format!("run of {events:?} with {answers} answers"),
-        })
-        .collect();
-    let (supply, record) = (case.supply.len(), case.record.len());
-    format!("{:?}, supply of {supply} cells, record of {record} cells\nlist: {}", case.limits, list.join(", "))
+/// Rows as a ride's `rows N` has them, and a record as long as the supply, which is what a ride has.
+fn simple_rows(case: &mut Case, fails: &dyn Fn(&Case) -> bool) {
+    attempt(case, fails, |case| case.supply.truncate(case.supply.len() / CELLS * CELLS));
+    attempt(case, fails, |case| {
+        for (at, cell) in case.supply.iter_mut().enumerate() {
+            *cell = (at / CELLS) as u16;
+        }
+    });
+    let rows = case.supply.len() / CELLS;
+    for fewer in 0..rows {
+        if attempt(case, fails, |case| case.supply.truncate(fewer * CELLS)) {
+            break;
+        }
+    }
+    attempt(case, fails, |case| case.record = vec![0xFFFF; case.supply.len()]);
 }

@@ -4,7 +4,9 @@ use crate::compare::{ones, Case};
 use crate::draw::random_case;
 use crate::limits::{Limits, CELLS};
 use crate::random::Random;
-use crate::shrink::{flat, shortest, shown};
+use crate::report::{Outcome, Replay};
+use crate::shrink::{flat, shortest};
+use crate::threads::{items, seeds, Amount};
 use crate::trial::{output, LONGEST_INPUT};
 use std::io::{Result, Write};
 use std::process::{Command, Stdio};
@@ -56,11 +58,13 @@ fn first_difference(program: &str, input: &[u8]) -> String {
     })
 }
 
-/// A difference with the shortest list it can be cut to.
-fn cut_report(program: &str, case: Case) -> String {
+/// The report of a difference, with the shortest list it can be cut to.
+fn report(program: &str, replay: &Replay, part: &str, seed: u64, case: Case) -> String {
     let fails = |case: &Case| case.limits.accept().is_ok() && !same(program, &input_of(case));
-    let cut = if fails(&case) { shortest(case, &fails) } else { case };
-    format!("{}\n{}", first_difference(program, &input_of(&cut)), shown(&cut))
+    let mut cut = if fails(&case) { shortest(case, &fails) } else { case };
+    // the trial's record is as long as its supply, whatever the case says
+    cut.record = vec![0; cut.supply.len()];
+    replay.failed_ride(part, seed, &first_difference(program, &input_of(&cut)), &cut)
 }
 
 /// An input that is damaged: a byte of the limits, an odd count of bytes, an early end, the longest lengths.
@@ -92,26 +96,30 @@ fn damaged(random: &mut Random, mut input: Vec<u8>) -> Vec<u8> {
     input
 }
 
-/// Seeded lists as inputs, every fourth one damaged. Gives what was compared, or the first difference.
-pub fn random_trials(program: &str, seeds: u64) -> std::result::Result<String, String> {
-    let (mut events, mut refused) = (0, 0);
-    for seed in 0..seeds {
+/// Seeded lists as inputs, one in four damaged.
+pub fn random_trials(program: &str, replay: &Replay, amount: Amount) -> Outcome {
+    let counted = seeds(amount, |seed, counted: &mut [u64; 3]| {
         let case = random_case(seed);
         let mut input = input_of(&case);
-        let whole = seed % 4 != 3;
+        let mut random = Random::new(!seed);
+        let whole = !random.once_in(4);
         if !whole {
-            input = damaged(&mut Random::new(!seed), input);
-        }
-        if !same(program, &input) {
-            let text =
-                if whole { cut_report(program, case) } else { first_difference(program, &input) + &shown_input(&input) };
-            return Err(format!("trial, seed {seed}: {text}"));
+            input = damaged(&mut random, input);
         }
         let lines = output(&input);
-        refused += u64::from(lines.starts_with(b"refused"));
-        events += lines.iter().filter(|byte| **byte == b'\n').count() - 1;
-    }
-    Ok(format!("trial: {seeds} random inputs, {events} events, {refused} inputs refused"))
+        if !printed(program, &input).is_ok_and(|text| text == lines) {
+            return Err(if whole {
+                report(program, replay, "trials", seed, case)
+            } else {
+                replay.failed("trials", seed, &(first_difference(program, &input) + &shown_input(&input)))
+            });
+        }
+        let events = lines.iter().filter(|byte| **byte == b'\n').count() as u64 - 1;
+        *counted = [counted[0] + 1, counted[1] + events, counted[2] + u64::from(lines.starts_with(b"refused"))];
+        Ok(events)
+    })?;
+    let [inputs, events, refused] = counted.into_iter().fold([0; 3], |sum, more| [0, 1, 2].map(|at| sum[at] + more[at]));
+    Ok(format!("trial: {inputs} random inputs, {events} events, {refused} inputs refused"))
 }
 
 fn shown_input(input: &[u8]) -> String {
@@ -122,19 +130,22 @@ fn shown_input(input: &[u8]) -> String {
 const EVENTS: [(u8, u8); 11] = [(1, 0), (2, 0), (3, 0), (3, 1), (4, 0), (5, 0), (6, 0), (7, 0), (8, 1), (8, 4), (8, 255)];
 
 /// All lists of so many of these events, for windows 1 and 2 and times 1 and 2, with two rows.
-pub fn short_trials(program: &str, length: u32) -> std::result::Result<String, String> {
-    let mut lists = 0;
+pub fn short_trials(program: &str, replay: &Replay, length: u32) -> Outcome {
+    let mut cases = vec![];
     for (window, time) in [(1, 1), (1, 2), (2, 1), (2, 2)] {
         let limits = Limits { window, data_life: time, reply_life: time, reply_wait: time, resend_wait: 0 };
         for code in 0..EVENTS.len().pow(length) {
             let event = |at: u32| EVENTS[code / EVENTS.len().pow(at) % EVENTS.len()];
             let list: Vec<(u8, u8)> = (0..length).map(event).collect();
-            let case = Case { limits, supply: (1..33).collect(), record: vec![], calls: ones(&list) };
-            if !same(program, &input_of(&case)) {
-                return Err(format!("trial, short lists: {}", cut_report(program, case)));
-            }
-            lists += 1;
+            cases.push(Case { limits, supply: (1..33).collect(), record: vec![], calls: ones(&list) });
         }
     }
-    Ok(format!("trial: all {lists} lists of {length} of {} events, w and times 1 and 2", EVENTS.len()))
+    items(&cases, |case, _: &mut ()| {
+        if same(program, &input_of(case)) {
+            Ok(())
+        } else {
+            Err(report(program, replay, "short-trials", 0, case.clone()))
+        }
+    })?;
+    Ok(format!("trial: all {} lists of {length} of {} events, w and times 1 and 2", cases.len(), EVENTS.len()))
 }

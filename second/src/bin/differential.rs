@@ -1,45 +1,93 @@
 //! The proved code compared with the second implementation: the trial program, and with the feature `proved` the static library.
 //!
-//! Takes the trial's path. Prints what was compared, or the first difference with its seed and the shortest list it can be cut
-//! to, and then ends with status 1.
+//! `differential TRIAL [--seed N] [--events N] [--part NAME]`: the trial's path; the seed of the first random case, 0 if it is
+//! left out; how many events random cases have in all; the only part to run. The same numbers give the same cases. Prints what
+//! was compared, or the first difference with its seed, how to replay it and the shortest list that shows it, and then ends with
+//! status 1.
 
+use second::report::{Outcome, Replay};
+use second::threads::Amount;
 use second::trials::{random_trials, short_trials};
 use std::process::exit;
 use std::time::Instant;
 
-/// Prints what was compared, or the difference.
-fn done(start: Instant, compared: Result<String, String>) {
-    match compared {
-        Ok(text) => println!("{text} ({} s)", start.elapsed().as_secs()),
-        Err(text) => {
-            println!("{text}");
-            exit(1);
+/// How many events there are where the caller does not say.
+const EVENTS: u64 = 10_000_000;
+
+/// What the caller asked for.
+struct Asked {
+    trial: String,
+    amount: Amount,
+    part: Option<String>,
+    replay: Replay,
+    ran: usize,
+}
+
+fn usage() -> ! {
+    eprintln!("usage: differential TRIAL [--seed N] [--events N] [--part NAME]");
+    exit(2)
+}
+
+impl Asked {
+    fn read() -> Asked {
+        let mut words = std::env::args();
+        let (Some(program), Some(trial)) = (words.next(), words.next()) else { usage() };
+        let replay = Replay { command: format!("{program} {trial}") };
+        let mut asked = Asked { trial, amount: Amount { seed: 0, events: EVENTS }, part: None, replay, ran: 0 };
+        while let Some(word) = words.next() {
+            let Some(value) = words.next() else { usage() };
+            let number = || value.parse().unwrap_or_else(|_| usage());
+            match word.as_str() {
+                "--seed" => asked.amount.seed = number(),
+                "--events" => asked.amount.events = number(),
+                "--part" => asked.part = Some(value),
+                _ => usage(),
+            }
+        }
+        asked
+    }
+
+    /// Runs a part, if it is asked for. A difference ends the program.
+    fn part(&mut self, name: &str, compare: impl Fn(&Asked) -> Outcome) {
+        if self.part.as_ref().is_some_and(|only| only != name) {
+            return;
+        }
+        self.ran += 1;
+        let start = Instant::now();
+        match compare(self) {
+            Ok(text) => println!("{name}: {text} ({:.1} s)", start.elapsed().as_secs_f64()),
+            Err(text) => {
+                println!("{text}");
+                exit(1);
+            }
         }
     }
 }
 
 #[cfg(feature = "proved")]
-fn library() {
-    use second::{checks, frame_checks};
-    let proved = &second::proved::Proved;
-    done(Instant::now(), checks::random_lists(proved, 60_000));
-    done(Instant::now(), checks::short_lists(proved, 7));
-    done(Instant::now(), checks::openings(proved));
-    done(Instant::now(), checks::made_up_links(proved, 10_000));
-    done(Instant::now(), checks::damaged_links(proved, 10));
-    done(Instant::now(), checks::wide_numbers(proved));
-    done(Instant::now(), frame_checks::readings(proved));
-    done(Instant::now(), frame_checks::writings(proved, 200_000));
+fn library(asked: &mut Asked) {
+    use second::{checks, frame_checks, links, proved::Proved};
+    asked.part("lists", |a| checks::random_lists(&Proved, &a.replay, a.amount.percent(75)));
+    asked.part("links", |a| links::made_up_links(&Proved, &a.replay, a.amount.percent(10)));
+    asked.part("damaged", |a| links::damaged_links(&Proved, &a.replay, a.amount.percent(5)));
+    asked.part("short-lists", |a| checks::short_lists(&Proved, &a.replay, 7));
+    asked.part("openings", |a| checks::openings(&Proved, &a.replay, a.amount));
+    asked.part("wide", |_| checks::wide_numbers(&Proved));
+    asked.part("readings", |a| frame_checks::readings(&Proved, &a.replay, a.amount));
+    asked.part("writings", |a| frame_checks::writings(&Proved, &a.replay, a.amount, 200_000));
 }
 
 #[cfg(not(feature = "proved"))]
-fn library() {
+fn library(_: &mut Asked) {
     println!("library: not linked");
 }
 
 fn main() {
-    let program = std::env::args().nth(1).expect("the trial's path");
-    done(Instant::now(), random_trials(&program, 4_000));
-    done(Instant::now(), short_trials(&program, 3));
-    library();
+    let mut asked = Asked::read();
+    asked.part("trials", |a| random_trials(&a.trial, &a.replay, a.amount.percent(10)));
+    asked.part("short-trials", |a| short_trials(&a.trial, &a.replay, 3));
+    library(&mut asked);
+    if asked.ran == 0 {
+        usage();
+    }
 }

@@ -3,16 +3,20 @@
 use super::mistakes::{step, Mistake};
 use super::{limits, record, supply};
 use crate::built::{Counts, Link};
-use crate::checks::{damaged_links, made_up_links, openings, wide_numbers};
+use crate::checks::{openings, random_lists, wide_numbers};
 use crate::compare::Case;
 use crate::differ::{difference, ride_difference, Pair};
-use crate::draw::{random_case, sound_link};
+use crate::draw::random_case;
+use crate::draw_link::drawn_link;
 use crate::library::{rises, Asked, Lent, Library, Rises};
 use crate::limits::{number, Limits, Refusal};
+use crate::links::{damaged_links, made_up_links};
 use crate::matlink::{Matlink, NUMBERS};
 use crate::random::Random;
+use crate::report::Replay;
 use crate::short::{all_short, Short};
 use crate::shrink::{flat, shortest};
+use crate::threads::Amount;
 
 /// A library with this mistake, or with none.
 struct StandIn(Option<Mistake>);
@@ -51,8 +55,8 @@ impl Library for StandIn {
         // no kind is 0
         let kind = if event.0.max(event.1) > 255 { 0 } else { event.0 as u8 };
         let done = StandIn::on(kept, |link| match self.0 {
-            None => link.step(kind, event.1 as u8, supply, record),
-            mistake => step(mistake, link, kind, event.1 as u8, supply, record),
+            Some(_) if link.sound() => step(self.0, link, kind, event.1 as u8, supply, record),
+            _ => link.step(kind, event.1 as u8, supply, record),
         });
         give(done, counts)
     }
@@ -76,7 +80,7 @@ const MISTAKES: [Mistake; 5] =
 fn a_kept_link_gives_the_link_back() {
     let mut random = Random::new(3);
     for _ in 0..200 {
-        let link = sound_link(&mut random);
+        let link = drawn_link(&mut random);
         let kept = Matlink::from(&link);
         let numbers = kept.numbers();
         assert_eq!((numbers.len(), NUMBERS), (1834, 1834));
@@ -98,8 +102,46 @@ fn nothing_differs_from_the_right_link() {
         let compared = short.compare(&right).expect("nothing differs");
         assert_eq!(compared.lists, 23 * 23);
     }
-    let checks = [openings(&right), made_up_links(&right, 100), damaged_links(&right, 1), wide_numbers(&right)];
+    let (replay, amount) = (&replay(), |events| Amount { seed: 0, events });
+    let checks = [
+        openings(&right, replay, amount(1)),
+        made_up_links(&right, replay, amount(100_000)),
+        damaged_links(&right, replay, amount(1)),
+        wide_numbers(&right),
+    ];
     assert_eq!(checks.into_iter().find_map(Result::err), None);
+}
+
+fn replay() -> Replay {
+    Replay { command: "differential trial".into() }
+}
+
+/// Calls on made-up links find each mistake, too, and the report is short.
+#[test]
+fn each_mistake_is_found_by_made_up_links() {
+    for mistake in MISTAKES {
+        let wrong = StandIn(Some(mistake));
+        let report = made_up_links(&wrong, &replay(), Amount { seed: 0, events: 100_000 }).expect_err("it is found");
+        assert!(report.lines().count() < 40, "{mistake:?}: {report}");
+    }
+}
+
+/// A report has the seed, the command that finds the same again, and a ride.
+#[test]
+fn a_report_can_be_replayed() {
+    let wrong = StandIn(Some(Mistake::FirstArrivalOnly));
+    let report = random_lists(&wrong, &replay(), Amount { seed: 0, events: 100_000 }).expect_err("it is found");
+    let line = report.lines().find_map(|line| line.strip_prefix("# replay: ")).expect("a command");
+    let words: Vec<&str> = line.split(' ').collect();
+    let ["differential", "trial", "--part", "lists", "--seed", seed, "--events", "1"] = words[..] else {
+        panic!("{report}");
+    };
+    let again = Amount { seed: seed.parse().expect("a number"), events: 1 };
+    assert_eq!(random_lists(&wrong, &replay(), again), Err(report.clone()));
+    let ride: Vec<&str> = report.lines().filter(|line| !line.starts_with('#')).collect();
+    let expected = "window 1, data life 1, reply life 1, reply wait 1, rows 1, \
+        send, data 0 arrives, tick 4, resend 0, data 0 arrives";
+    assert_eq!(ride.join(", "), expected);
 }
 
 #[test]

@@ -5,6 +5,8 @@ use crate::frames::{read, write, Frame};
 use crate::library::FrameLibrary;
 use crate::limits::number;
 use crate::matlink::MatlinkFrame;
+use crate::report::Replay;
+use crate::threads::Amount;
 
 /// What is wrong.
 #[derive(Clone, Copy, Debug, PartialEq)]
@@ -69,7 +71,8 @@ impl FrameLibrary for StandIn {
 #[test]
 fn wrong_readers_and_writers_are_found() {
     for wrong in [Wrong::Nothing, Wrong::Life, Wrong::Span, Wrong::Behind, Wrong::Number, Wrong::Cut, Wrong::Kind] {
-        let found = readings(&StandIn(wrong)).and_then(|_| writings(&StandIn(wrong), 20_000));
+        let (library, replay, amount) = (&StandIn(wrong), &Replay { command: String::new() }, Amount { seed: 0, events: 1 });
+        let found = readings(library, replay, amount).and_then(|_| writings(library, replay, amount, 20_000));
         assert_eq!(found.is_err(), wrong != Wrong::Nothing, "{wrong:?}: {found:?}");
     }
 }

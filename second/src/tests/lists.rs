@@ -1,25 +1,27 @@
 //! Lists on which the built ends are compared with the unbounded ends: random long ones, and all short ones.
 
-use super::{counts, limits, list, record, supply};
+use super::{counts, limits};
 use crate::built::{Counts, Link};
 use crate::compare::{compare_with, ones, record_difference, rows, state_difference, Call, Case, Step};
 use crate::draw::random_case;
-use crate::limits::{number, Limits, Row, CELLS};
-use crate::shrink::{shortest, shown};
+use crate::limits::{number, CELLS};
+use crate::ride_text::text;
+use crate::short::{all_short, After, Compared, Event, Short, EVENTS};
+use crate::shrink::shortest;
+use crate::threads::items;
 use crate::unbounded::Ends;
-use std::collections::HashMap;
 
 /// How many random lists are compared; fewer without optimization, which is some ten times slower.
 const RANDOM_LISTS: u64 = if cfg!(debug_assertions) { 2_000 } else { 60_000 };
 
 /// How long the lists are of which all are compared.
-const LENGTH: usize = if cfg!(debug_assertions) { 5 } else { 10 };
+const LENGTH: usize = if cfg!(debug_assertions) { 5 } else { 9 };
 
 /// A failing case as it is reported: its seed, the difference, and the shortest list it can be cut to.
 fn report(seed: u64, case: Case, step: Step) -> String {
     let cut = shortest(case, &|case| fails(case, step));
     let difference = compare_with(&cut, step).unwrap_or_default();
-    format!("seed {seed}: {difference}\n{}", shown(&cut))
+    format!("seed {seed}: {difference}\n{}", text(&cut))
 }
 
 /// A case whose opening is refused is no case: the shrinker must not end there.
@@ -100,88 +102,56 @@ struct State {
     total: Counts,
 }
 
-/// The events of these lists, with w at most 2 and times of at most 2. Not each event that acts differently is among them: a tick
-/// of 3, 5 or 6 is left to two or more ticks, and of the refused events there are only examples.
-const EVENTS: &str = "0 0, 1 0, 1 1, 2 0, 2 1, 2 2, 3 0, 3 1, 3 2, 4 0, 4 1, 5 0, 5 1, 5 2, 6 0, 6 1, 7 0, 7 1, \
-    8 0, 8 1, 8 2, 8 4, 8 255";
-
-/// All lists that begin with so many rows sent, recorded and acknowledged, and go on with so many of EVENTS; behind the
-/// beginning there are so many rows of space in the record, and one more in the supply. Lists that lead to the same state of both
-/// ends go on together; how many there are and one of them, to be printed, are kept with the state. Gives the number of lists and
-/// of states, or the first difference.
-fn all_lists(limits: Limits, rounds: usize, space: usize, length: usize, step: Step) -> Result<(u64, usize), String> {
-    let cells = supply(rounds + space + 1);
-    let supply: Vec<Row> = rows(&cells);
-    let at_first = record(rounds + space);
-    let (beginning, any) = (list("1 0, 3 0, 4 0, 5 0").repeat(rounds), list(EVENTS));
-    let (_, link) = Link::open(limits);
+/// All of these lists on the built ends and the unbounded ends, or the first difference. A refused event leaves both as they
+/// were.
+fn all_lists(short: &Short, step: Step) -> Result<Compared, String> {
+    let empty = short.empty_case();
+    let supply = rows(&empty.supply);
+    let (_, link) = Link::open(short.limits);
     let ends = Ends::fresh(link.limits);
-    let fresh = State { link, ends, record: at_first.clone(), total: counts(0, 0, 0) };
-    let mut layer: HashMap<State, (u64, Vec<(u8, u8)>)> = HashMap::from([(fresh, (1, vec![]))]);
-    let mut states = 0;
-    for at in 0..beginning.len() + length {
-        let events = beginning.get(at..=at).unwrap_or(&any);
-        let mut next: HashMap<State, (u64, Vec<(u8, u8)>)> = HashMap::new();
-        for (state, (lists, example)) in layer {
-            let mut same = 0;
-            for &(kind, argument) in events {
-                let State { mut link, mut ends, mut record, mut total } = state.clone();
-                let (sent, recorded) = (total.sent * CELLS, total.recorded * CELLS);
-                let answer = step(&mut link, kind, argument, &cells[sent..], &mut record[recorded..]);
-                let expected = ends.event(kind, argument, &supply, at_first.len());
-                total.add(answer.unwrap_or_default());
-                let agree = number(&answer) == number(&expected)
-                    && mat_agrees(&link, &ends)
-                    && state_difference(&link, &ends, total).is_none()
-                    && record_difference(&record, &at_first, &supply, &ends).is_none();
-                let after = State { link, ends, record, total };
-                if !agree || (answer.is_err() && after != state) {
-                    let calls = ones(&[&example[..], &[(kind, argument)]].concat());
-                    let case = Case { limits, supply: cells, record: at_first, calls };
-                    return Err(if fails(&case, step) { report(0, case, step) } else { shown(&case) });
-                }
-                if answer.is_err() {
-                    same += lists;
-                } else {
-                    let longer = || (0, [&example[..], &[(kind, argument)]].concat());
-                    next.entry(after).or_insert_with(longer).0 += lists;
-                }
-            }
-            if same > 0 {
-                next.entry(state).or_insert((0, example)).0 += same;
-            }
+    let fresh = State { link, ends, record: empty.record.clone(), total: counts(0, 0, 0) };
+    let put = |before: &State, (kind, argument): Event| {
+        let mut after = before.clone();
+        let State { link, ends, record, total } = &mut after;
+        let (sent, recorded) = (total.sent * CELLS, total.recorded * CELLS);
+        let answer = step(link, kind, argument, &empty.supply[sent..], &mut record[recorded..]);
+        let expected = ends.event(kind, argument, &supply, empty.record.len());
+        total.add(answer.unwrap_or_default());
+        let agree = number(&answer) == number(&expected)
+            && mat_agrees(link, ends)
+            && state_difference(link, ends, *total).is_none()
+            && record_difference(record, &empty.record, &supply, ends).is_none();
+        match answer {
+            Ok(_) if agree => After::Done(after),
+            Err(_) if agree && after == *before => After::Refused,
+            _ => After::Differs,
         }
-        layer = next;
-        states += layer.len();
-    }
-    Ok((layer.values().map(|entry| entry.0).sum(), states))
+    };
+    short.search(fresh, put).map_err(|list| {
+        let case = Case { calls: ones(&list), ..empty.clone() };
+        if fails(&case, step) {
+            report(0, case, step)
+        } else {
+            text(&case)
+        }
+    })
 }
 
-/// From a fresh link and from the last number before the ring's end, with enough space and with space for one row.
 #[test]
 fn all_short_lists() {
-    let (mut lists, mut states) = (0, 0);
-    for window in [1, 2] {
-        for (rounds, space, length) in
-            [(0, 6, LENGTH), (2 * window - 1, 6, LENGTH), (0, 1, LENGTH - 1), (2 * window - 1, 1, LENGTH - 1)]
-        {
-            for times in 0..8u16 {
-                let limits = limits(window, 1 + (times & 1), 1 + (times >> 1 & 1), 1 + (times >> 2), 0);
-                match all_lists(limits, rounds, space, length, Link::step) {
-                    Ok((more_lists, more_states)) => {
-                        assert_eq!(more_lists, (list(EVENTS).len() as u64).pow(length as u32));
-                        lists += more_lists;
-                        states += more_states;
-                    }
-                    Err(text) => panic!("{text}"),
-                }
-            }
-        }
+    let compared = items(&all_short(LENGTH), |short, total: &mut Compared| {
+        let compared = all_lists(short, Link::step)?;
+        assert_eq!(compared.lists, (EVENTS.len() as u64).pow(LENGTH as u32));
+        *total = total.and(compared);
+        Ok(())
+    });
+    match compared {
+        Ok(threads) => println!("{:?}", threads.into_iter().reduce(Compared::and)),
+        Err(text) => panic!("{text}"),
     }
-    println!("{lists} lists of up to {LENGTH} events, {states} states");
 }
 
 /// Whether the lists of 7 events, times 1, find a wrong link.
 pub fn found_by_short_lists(wrong: Step) -> bool {
-    all_lists(limits(2, 1, 1, 1, 0), 3, 6, 7, wrong).is_err()
+    all_lists(&Short { limits: limits(2, 1, 1, 1, 0), rounds: 3, space: 6, length: 7 }, wrong).is_err()
 }

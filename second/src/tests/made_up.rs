@@ -2,7 +2,7 @@
 
 use super::{limits, supply};
 use crate::built::{Counts, Link, Reply};
-use crate::draw::sound_link;
+use crate::draw_link::sound_link;
 use crate::limits::{number, Refusal};
 use crate::random::Random;
 

@@ -7,7 +7,7 @@ use super::{limits, ran, record, supply};
 use crate::built::{Counts, Link, Reply};
 use crate::compare::{compare_with, ones, Case, Step};
 use crate::limits::Refusal;
-use crate::shrink::shown;
+use crate::ride_text::text;
 
 /// The paper's five, in its order.
 #[derive(Clone, Copy, Debug, PartialEq, Eq)]
@@ -170,10 +170,10 @@ fn lists_find_each_mistake() {
         [(every_held_row, 8), (first_arrival_only, 5), (first_sending_only, 3), (backwards, 24), (oldest_first, 9)];
     for (wrong, longest) in variants {
         let (seed, shortest) = found_by_random_lists(wrong).expect("the wrong link is found");
-        assert!(shortest.calls.len() <= longest, "seed {seed}: {}", shown(&shortest));
+        assert!(shortest.calls.len() <= longest, "seed {seed}: {}", text(&shortest));
         assert!(compare_with(&shortest, wrong).is_some());
         assert_eq!(compare_with(&shortest, Link::step), None);
         assert!(found_by_short_lists(wrong));
-        println!("seed {seed}: {}", shown(&shortest));
+        println!("seed {seed}: {}", text(&shortest));
     }
 }

@@ -2,7 +2,8 @@
 
 use super::{limits, record, supply};
 use crate::compare::{ones, Call, Case};
-use crate::shrink::{flat, shortest, shown};
+use crate::ride_text::text;
+use crate::shrink::{flat, shortest};
 
 /// A made-up failure: a tick above 9 somewhere behind a send.
 #[test]
@@ -25,5 +26,5 @@ fn a_case_is_cut() {
     let cut = shortest(case, &fails);
     assert_eq!(cut.calls, ones(&[(1, 0), (8, 10)]));
     assert_eq!((cut.limits, cut.supply.len(), cut.record.len()), (limits(1, 1, 1, 1, 0), 0, 0));
-    assert!(shown(&cut).ends_with("list: 1 0, 8 10"));
+    assert_eq!(text(&cut), "window 1\ndata life 1\nreply life 1\nreply wait 1\nsend\ntick 10");
 }
