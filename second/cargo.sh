@@ -12,4 +12,4 @@ if [ -e "$library" ]; then
     linked=(--features proved)
 fi
 export CARGO_TARGET_DIR=second/target/proved
-cargo "$1" --quiet --release --offline --manifest-path second/Cargo.toml "${linked[@]}" "${@:2}"
+cargo "$1" --quiet --profile tests --offline --manifest-path second/Cargo.toml "${linked[@]}" "${@:2}"

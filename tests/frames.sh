@@ -4,4 +4,4 @@ set -euo pipefail
 mkdir -p target
 rt check framecheck >target/framecheck.log 2>&1 || { tail -n 20 target/framecheck.log; exit 1; }
 bash second/cargo.sh build --bins
-second/target/proved/release/frames target/bin/framecheck
+second/target/proved/tests/frames target/bin/framecheck

@@ -4,7 +4,7 @@ use crate::built::{Counts, Link};
 use crate::compare::{different, Call, Case};
 use crate::library::{asked, rises, Lent, Library};
 use crate::limits::{number, Limits, Refusal, CELLS};
-use crate::matlink::{without_free, Matlink};
+use crate::matlink::{head_of, without_free, Matlink};
 use crate::members::{members, name, named};
 use crate::ride_text::words;
 
@@ -110,7 +110,7 @@ impl Pair {
     /// Both links, but for what is free. The single numbers come first, as they say what is free.
     fn link_difference(&self) -> Difference {
         let kept = &self.kept.link;
-        if let Some(text) = named(&kept.head(), &Matlink::from(&self.link).head(), name) {
+        if let Some(text) = named(&kept.head(), &head_of(&self.link), name) {
             return Some(text);
         }
         let proved = Link::from(kept);

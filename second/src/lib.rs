@@ -34,6 +34,3 @@ pub mod threads;
 pub mod trial;
 pub mod trials;
 pub mod unbounded;
-
-#[cfg(test)]
-mod tests;

@@ -51,6 +51,7 @@ impl Try {
     /// The same on a link with fewer messages, and with 0 or 1 for each number of which the difference needs no other.
     fn smallest(self, library: &dyn Library) -> Try {
         let mut now = self.first_event(library).unwrap_or(self);
+        now.fewer_events(library);
         for message in (0..TABLE_PLACES).rev() {
             for (reply, moved) in [(false, 0), (false, 1), (true, 0), (true, 1)] {
                 now.attempt(library, |less| less.without(reply, message, moved));
@@ -66,6 +67,18 @@ impl Try {
             }
         }
         now
+    }
+
+    /// Takes events out of a run.
+    fn fewer_events(&mut self, library: &dyn Library) {
+        let Call::Run { events, .. } = &self.call else { return };
+        for at in (0..events.len() / 2).rev() {
+            self.attempt(library, |less| {
+                if let Call::Run { events, .. } = &mut less.call {
+                    events.drain(2 * at..2 * at + 2);
+                }
+            });
+        }
     }
 
     /// Takes over a change after which there still is a difference.

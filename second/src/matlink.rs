@@ -141,21 +141,28 @@ fn flat<const N: usize>(words: impl Iterator<Item = u16>) -> [u16; N] {
     words.try_into().expect("as many as there are")
 }
 
+/// The single numbers of a link, in their order.
+pub fn head_of(link: &Link) -> [u16; 10] {
+    let Link { limits, mat, pad, data, replies } = link;
+    [
+        limits.window as u16,
+        limits.data_life,
+        limits.reply_life,
+        limits.reply_wait,
+        limits.resend_wait,
+        mat.oldest.into(),
+        mat.next.into(),
+        pad.wanted.into(),
+        data.count as u16,
+        replies.count as u16,
+    ]
+}
+
 impl From<&Link> for Matlink {
     fn from(link: &Link) -> Matlink {
-        let Link { limits, mat, pad, data, replies } = link;
+        let Link { mat, pad, data, replies, .. } = link;
         let reply_words = |m: &Reply| [m.life, u16::from(m.first), u16::from(m.last)];
-        Matlink {
-            window: limits.window as u16,
-            data_life: limits.data_life,
-            reply_life: limits.reply_life,
-            reply_wait: limits.reply_wait,
-            resend_wait: limits.resend_wait,
-            oldest: mat.oldest.into(),
-            next: mat.next.into(),
-            wanted: pad.wanted.into(),
-            data_count: data.count as u16,
-            reply_count: replies.count as u16,
+        let mut out = Matlink {
             mat_mark: mat.marked.map(u16::from),
             mat_timer: mat.timers,
             mat_cell: flat(mat.rows.into_iter().flatten()),
@@ -164,11 +171,15 @@ impl From<&Link> for Matlink {
             pad_cell: flat(pad.rows.into_iter().flatten()),
             data: flat(data.messages.iter().flat_map(|m| [m.life, m.number.into()].into_iter().chain(m.row))),
             reply: flat(replies.messages.iter().flat_map(reply_words)),
-        }
+            ..Matlink::filled(0)
+        };
+        out.set_head(head_of(link));
+        out
     }
 }
 
 /// A sequence number. A byte holds every number that question 4 lets pass, and 255 stands for the others.
+#[inline]
 fn ring(number: u16) -> u8 {
     number.min(255) as u8
 }

@@ -11,6 +11,7 @@ impl Random {
 
     /// 64 bits.
     #[allow(clippy::should_implement_trait)]
+    #[inline]
     pub fn next(&mut self) -> u64 {
         self.0 ^= self.0 << 13;
         self.0 ^= self.0 >> 7;
@@ -19,21 +20,25 @@ impl Random {
     }
 
     /// A number below n, which is above 0.
+    #[inline]
     pub fn below(&mut self, n: usize) -> usize {
         ((self.next() >> 11) % n as u64) as usize
     }
 
     /// True once in n times.
+    #[inline]
     pub fn once_in(&mut self, n: usize) -> bool {
         self.below(n) == 0
     }
 
     /// Any byte.
+    #[inline]
     pub fn byte(&mut self) -> u8 {
         self.below(256) as u8
     }
 
     /// One of these.
+    #[inline]
     pub fn one_of<T: Copy>(&mut self, choices: &[T]) -> T {
         choices[self.below(choices.len())]
     }

@@ -1,7 +1,7 @@
 #!/usr/bin/env bash
 # tests/by-hand/differential.sh [EVENTS [SEED]]: the comparison of tests/differential.sh, as long as asked. EVENTS is how many
-# events the random cases have in all, 100,000,000 if it is left out; SEED is the seed of the first one, by default the next
-# after those of the gate, so that no case comes twice.
+# events the random cases have in all, 100,000,000 if it is left out; SEED is the seed of the first one, by default one far behind
+# those of the gate, so that no case comes twice.
 set -euo pipefail
 cd "$(dirname "$0")/../.."
 mkdir -p target
@@ -9,5 +9,5 @@ rt check trial >target/differential.log 2>&1 || { tail -n 20 target/differential
 rt staticlib exports >target/differential.log 2>&1 || { tail -n 20 target/differential.log; exit 1; }
 bash second/cargo.sh build --bins
 start=$SECONDS
-second/target/proved/release/differential target/bin/trial --events "${1:-100000000}" --seed "${2:-1000000}"
+second/target/proved/tests/differential target/bin/trial --events "${1:-100000000}" --seed "${2:-1000000}"
 echo "$((SECONDS - start)) s"

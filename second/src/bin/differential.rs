@@ -1,13 +1,15 @@
-//! The proved code compared with the second implementation: the trial program, and with the feature `proved` the static library.
+//! The proved code compared with the second implementation: the trial program and the static library.
 //!
 //! `differential TRIAL [--seed N] [--events N] [--part NAME]`: the trial's path; the seed of the first random case, 0 if it is
 //! left out; how many events random cases have in all; the only part to run. The same numbers give the same cases. Prints what
-//! was compared, or the first difference with its seed, how to replay it and the shortest list that shows it, and then ends with
-//! status 1.
+//! was compared, or a difference with its seed, how to replay it and the shortest list or the smallest link that shows it, and
+//! then ends with status 1.
 
+use second::proved::Proved;
 use second::report::{Outcome, Replay};
 use second::threads::Amount;
 use second::trials::{random_trials, short_trials};
+use second::{checks, frame_checks, links};
 use std::process::exit;
 use std::time::Instant;
 
@@ -20,6 +22,7 @@ struct Asked {
     amount: Amount,
     part: Option<String>,
     replay: Replay,
+    /// How many parts there were of that name.
     ran: usize,
 }
 
@@ -64,9 +67,10 @@ impl Asked {
     }
 }
 
-#[cfg(feature = "proved")]
-fn library(asked: &mut Asked) {
-    use second::{checks, frame_checks, links, proved::Proved};
+fn main() {
+    let mut asked = Asked::read();
+    asked.part("trials", |a| random_trials(&a.trial, &a.replay, a.amount.percent(10)));
+    asked.part("short-trials", |a| short_trials(&a.trial, &a.replay, 3));
     asked.part("lists", |a| checks::random_lists(&Proved, &a.replay, a.amount.percent(75)));
     asked.part("links", |a| links::made_up_links(&Proved, &a.replay, a.amount.percent(10)));
     asked.part("damaged", |a| links::damaged_links(&Proved, &a.replay, a.amount.percent(5)));
@@ -75,18 +79,6 @@ fn library(asked: &mut Asked) {
     asked.part("wide", |_| checks::wide_numbers(&Proved));
     asked.part("readings", |a| frame_checks::readings(&Proved, &a.replay, a.amount));
     asked.part("writings", |a| frame_checks::writings(&Proved, &a.replay, a.amount, 200_000));
-}
-
-#[cfg(not(feature = "proved"))]
-fn library(_: &mut Asked) {
-    println!("library: not linked");
-}
-
-fn main() {
-    let mut asked = Asked::read();
-    asked.part("trials", |a| random_trials(&a.trial, &a.replay, a.amount.percent(10)));
-    asked.part("short-trials", |a| short_trials(&a.trial, &a.replay, 3));
-    library(&mut asked);
     if asked.ran == 0 {
         usage();
     }

@@ -1,8 +1,8 @@
 //! Frames: the two ways undo each other, and each question's edge.
 
-use crate::frames::{read, write, Frame, DATA_LENGTH};
-use crate::limits::number;
-use crate::random::Random;
+use second::frames::{read, write, Frame, DATA_LENGTH};
+use second::limits::number;
+use second::random::Random;
 
 fn data(life: u8, window: u8, number: u8) -> Vec<u8> {
     let mut bytes = vec![1, life, window, number];

@@ -1,9 +1,9 @@
 //! Bench cases A to J of the paper.
 
 use super::{counts, limits, list, ran, record, supply, Ran};
-use crate::built::{Link, Reply};
-use crate::frames::{read, Frame};
-use crate::limits::{number, Limits};
+use second::built::{Link, Reply};
+use second::frames::{read, Frame};
+use second::limits::{number, Limits};
 
 /// The answer and the resend wait of an opening.
 fn opening(asked: Limits) -> (u8, u16) {

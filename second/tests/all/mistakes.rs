@@ -4,10 +4,10 @@
 
 use super::lists::{found_by_random_lists, found_by_short_lists};
 use super::{limits, ran, record, supply};
-use crate::built::{Counts, Link, Reply};
-use crate::compare::{compare_with, ones, Case, Step};
-use crate::limits::Refusal;
-use crate::ride_text::text;
+use second::built::{Counts, Link, Reply};
+use second::compare::{compare_with, ones, Case, Step};
+use second::limits::Refusal;
+use second::ride_text::text;
 
 /// The paper's five, in its order.
 #[derive(Clone, Copy, Debug, PartialEq, Eq)]

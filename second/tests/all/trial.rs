@@ -1,6 +1,6 @@
 //! The trial's input and output.
 
-use crate::trial::{output, read, LONGEST_INPUT};
+use second::trial::{output, read, LONGEST_INPUT};
 
 /// The published input: 1 2 2 2 0 0 1, one row of sixteen 5s, and events 1 0, 3 0, 4 0, 5 0.
 fn published() -> Vec<u8> {

@@ -1,10 +1,10 @@
 //! Links that a caller made up: question 4 clause by clause, and what every event keeps.
 
 use super::{limits, supply};
-use crate::built::{Counts, Link, Reply};
-use crate::draw_link::sound_link;
-use crate::limits::{number, Refusal};
-use crate::random::Random;
+use second::built::{Counts, Link, Reply};
+use second::draw_link::sound_link;
+use second::limits::{number, Refusal};
+use second::random::Random;
 
 /// After each event the link is sound; a refused one changes nothing; the counts are the rises; a run of one is the same.
 /// Questions 13, 18 and 19 arise here, and only here.

@@ -1,18 +1,18 @@
 //! Lists on which the built ends are compared with the unbounded ends: random long ones, and all short ones.
 
 use super::{counts, limits};
-use crate::built::{Counts, Link};
-use crate::compare::{compare_with, ones, record_difference, rows, state_difference, Call, Case, Step};
-use crate::draw::random_case;
-use crate::limits::{number, CELLS};
-use crate::ride_text::text;
-use crate::short::{all_short, After, Compared, Event, Short, EVENTS};
-use crate::shrink::shortest;
-use crate::threads::items;
-use crate::unbounded::Ends;
+use second::built::{Counts, Link};
+use second::compare::{compare_with, ones, record_difference, rows, state_difference, Call, Case, Step};
+use second::draw::random_case;
+use second::limits::{number, CELLS};
+use second::ride_text::text;
+use second::short::{all_short, After, Compared, Event, Short, EVENTS};
+use second::shrink::shortest;
+use second::threads::items;
+use second::unbounded::Ends;
 
 /// How many random lists are compared; fewer without optimization, which is some ten times slower.
-const RANDOM_LISTS: u64 = if cfg!(debug_assertions) { 2_000 } else { 60_000 };
+const RANDOM_LISTS: u64 = if cfg!(debug_assertions) { 2_000 } else { 30_000 };
 
 /// How long the lists are of which all are compared.
 const LENGTH: usize = if cfg!(debug_assertions) { 5 } else { 9 };

@@ -12,9 +12,9 @@
 
 use super::mistakes::{step, Mistake};
 use super::{counts, limits, ran, record, supply};
-use crate::built::{Link, Reply};
-use crate::compare::{compare_with, ones, Case};
-use crate::limits::number;
+use second::built::{Link, Reply};
+use second::compare::{compare_with, ones, Case};
+use second::limits::number;
 
 const UNIT: u8 = 4;
 

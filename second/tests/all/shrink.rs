@@ -1,9 +1,9 @@
 //! A failing case is cut to a short one.
 
 use super::{limits, record, supply};
-use crate::compare::{ones, Call, Case};
-use crate::ride_text::text;
-use crate::shrink::{flat, shortest};
+use second::compare::{ones, Call, Case};
+use second::ride_text::text;
+use second::shrink::{flat, shortest};
 
 /// A made-up failure: a tick above 9 somewhere behind a send.
 #[test]

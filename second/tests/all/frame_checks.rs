@@ -1,12 +1,12 @@
 //! The comparison of frames finds what is wrong in a library: here the library is the reader and the writer of this crate.
 
-use crate::frame_checks::{readings, writings};
-use crate::frames::{read, write, Frame};
-use crate::library::FrameLibrary;
-use crate::limits::number;
-use crate::matlink::MatlinkFrame;
-use crate::report::Replay;
-use crate::threads::Amount;
+use second::frame_checks::{readings, writings};
+use second::frames::{read, write, Frame};
+use second::library::FrameLibrary;
+use second::limits::number;
+use second::matlink::MatlinkFrame;
+use second::report::Replay;
+use second::threads::Amount;
 
 /// What is wrong.
 #[derive(Clone, Copy, Debug, PartialEq)]

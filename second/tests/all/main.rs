@@ -8,12 +8,13 @@ mod frames;
 mod lists;
 mod made_up;
 mod mistakes;
+mod program;
 mod shrink;
 mod trial;
 
-use crate::built::{Counts, Link};
-use crate::compare::{compare, ones, Call, Case};
-use crate::limits::{Limits, CELLS};
+use second::built::{Counts, Link};
+use second::compare::{compare, ones, Call, Case};
+use second::limits::{Limits, CELLS};
 
 fn limits(window: usize, data_life: u16, reply_life: u16, reply_wait: u16, resend_wait: u16) -> Limits {
     Limits { window, data_life, reply_life, reply_wait, resend_wait }

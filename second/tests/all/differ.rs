@@ -2,21 +2,21 @@
 
 use super::mistakes::{step, Mistake};
 use super::{limits, record, supply};
-use crate::built::{Counts, Link};
-use crate::checks::{openings, random_lists, wide_numbers};
-use crate::compare::Case;
-use crate::differ::{difference, ride_difference, Pair};
-use crate::draw::random_case;
-use crate::draw_link::drawn_link;
-use crate::library::{rises, Asked, Lent, Library, Rises};
-use crate::limits::{number, Limits, Refusal};
-use crate::links::{damaged_links, made_up_links};
-use crate::matlink::{Matlink, NUMBERS};
-use crate::random::Random;
-use crate::report::Replay;
-use crate::short::{all_short, Short};
-use crate::shrink::{flat, shortest};
-use crate::threads::Amount;
+use second::built::{Counts, Link};
+use second::checks::{openings, random_lists, wide_numbers};
+use second::compare::Case;
+use second::differ::{difference, ride_difference, Pair};
+use second::draw::random_case;
+use second::draw_link::drawn_link;
+use second::library::{rises, Asked, Lent, Library, Rises};
+use second::limits::{number, Limits, Refusal};
+use second::links::{damaged_links, made_up_links};
+use second::matlink::{Matlink, NUMBERS};
+use second::random::Random;
+use second::report::Replay;
+use second::short::{all_short, Short};
+use second::shrink::{flat, shortest};
+use second::threads::Amount;
 
 /// A library with this mistake, or with none.
 struct StandIn(Option<Mistake>);
@@ -168,6 +168,6 @@ fn a_changed_number_is_found() {
     let (mut pair, _, found) = Pair::open(&StandIn(None), limits(2, 1, 1, 1, 0), &record(2));
     assert_eq!(found, None);
     pair.kept.link.mat_mark[0] = 1;
-    let call = crate::compare::Call::One { kind: 8, argument: 1 };
+    let call = second::compare::Call::One { kind: 8, argument: 1 };
     assert!(pair.call(&StandIn(None), &call, &supply(1)).1.is_some());
 }
