@@ -9,7 +9,7 @@ use crate::matlink::Matlink;
 use crate::report::{Outcome, Replay};
 use crate::short::{all_short, Compared, EVENTS};
 use crate::shrink::{flat, shortest};
-use crate::threads::{items, seeds, Amount};
+use crate::threads::{items, seeds, sums, Amount};
 
 /// A list through calls, and where that shows nothing in one ride.
 fn list_difference(library: &dyn Library, case: &Case) -> Option<String> {
@@ -20,7 +20,7 @@ fn list_difference(library: &dyn Library, case: &Case) -> Option<String> {
     difference(library, case).or_else(whole_ride)
 }
 
-/// A difference and the shortest list it can be cut to, as a ride.
+/// A difference, and the case cut to the shortest list that shows one.
 fn cut(library: &dyn Library, case: Case) -> (String, Case) {
     let fails = |case: &Case| case.limits.accept().is_ok() && list_difference(library, case).is_some();
     let cut = if fails(&case) { shortest(case, &fails) } else { case };
@@ -52,8 +52,8 @@ pub fn random_lists(library: &dyn Library, replay: &Replay, amount: Amount) -> O
         *counted = [counted[0] + 1, counted[1] + calls, counted[2] + events];
         Ok(events)
     })?;
-    let [lists, calls, events] = counted.into_iter().fold([0; 3], |sum, more| [0, 1, 2].map(|at| sum[at] + more[at]));
-    Ok(format!("library: {lists} random lists in {calls} calls and {lists} rides, {events} events"))
+    let [lists, calls, events] = sums(counted);
+    Ok(format!("{lists} random lists in {calls} calls and {lists} rides, {events} events"))
 }
 
 /// All short lists, for windows and times 1 and 2.
@@ -68,7 +68,7 @@ pub fn short_lists(library: &dyn Library, replay: &Replay, length: usize) -> Out
     })?;
     let Compared { lists, calls } = counted.into_iter().fold(Compared::default(), Compared::and);
     let events = EVENTS.len();
-    Ok(format!("library: all {lists} lists of {length} of {events} events, by {calls} calls: lists to the same state go on together"))
+    Ok(format!("all {lists} lists of {length} of {events} events, by {calls} calls: lists to the same state go on together"))
 }
 
 /// Limits at and beyond every edge, each with an opening, a call for one event, a run and a ride.
@@ -101,7 +101,7 @@ pub fn openings(library: &dyn Library, replay: &Replay, amount: Amount) -> Outco
         }
         opened += usize::from(limits.accept().is_ok());
     }
-    Ok(format!("library: {count} openings, {opened} of them done"))
+    Ok(format!("{count} openings, {opened} of them done"))
 }
 
 fn limits_of(window: usize, times: [u16; 3], resend_wait: u16) -> Limits {
@@ -124,7 +124,7 @@ pub fn wide_numbers(library: &dyn Library) -> Outcome {
             let found = different((opened, rode), (refusal, refusal), || format!("limits {asked:?}"))
                 .or_else(|| different(&link, &zeros, || "link of a refused opening".into()));
             if let Some(text) = found {
-                return Err(format!("library, wide numbers: {text}"));
+                return Err(format!("wide numbers: {text}"));
             }
             calls += 2;
         }
@@ -135,9 +135,9 @@ pub fn wide_numbers(library: &dyn Library) -> Outcome {
         let (given, mut counts) = (link.clone(), [5; 3]);
         let answer = library.step(&mut link, event, &[1; CELLS], &mut [], &mut counts);
         if (answer, counts) != (8, [0; 3]) || link != given {
-            return Err(format!("library, event {event:?}: answer {answer}, counts {counts:?}"));
+            return Err(format!("event {event:?}: answer {answer}, counts {counts:?}"));
         }
         calls += 1;
     }
-    Ok(format!("library: {calls} calls with numbers that are too wide"))
+    Ok(format!("{calls} calls with numbers that are too wide"))
 }

@@ -60,68 +60,79 @@ pub fn compare(case: &Case) -> Option<String> {
 
 /// The same with another call for one event.
 pub fn compare_with(case: &Case, step: Step) -> Option<String> {
-    let (opened, mut link) = Link::open(case.limits);
+    let (opened, link) = Link::open(case.limits);
     if let Err(refusal) = opened {
         return Some(format!("the opening answers {}", refusal as u8));
     }
-    let mut ends = Ends::fresh(link.limits);
-    let supply = rows(&case.supply);
-    let mut record = case.record.clone();
-    let mut total = Counts::default();
-    for (at, call) in case.calls.iter().enumerate() {
-        let rest = &case.supply[total.sent * CELLS..];
-        let space = &mut record[total.recorded * CELLS..];
+    let ends = Ends::fresh(link.limits);
+    let (supply, record) = (rows(&case.supply), case.record.clone());
+    let mut both = Both { case, supply, link, ends, record, total: Counts::default() };
+    case.calls.iter().enumerate().find_map(|(at, call)| {
         let found = match call {
-            Call::One { kind, argument } => {
-                let answer = step(&mut link, *kind, *argument, rest, space);
-                if let Ok(rises) = answer {
-                    total.add(rises);
-                }
-                if rest.len().is_multiple_of(CELLS) {
-                    let expected = ends.event(*kind, *argument, &supply, case.record.len());
-                    different(number(&answer), number(&expected), || format!("answer to {kind} {argument}"))
-                } else {
-                    different(number(&answer), 6, || format!("answer to {kind} {argument}"))
-                }
-            }
-            Call::Run { events, answers } => {
-                let mut buffer = vec![UNTOUCHED; *answers];
-                let before = link.clone();
-                let answer = link.run(events, rest, space, &mut buffer);
-                if let Ok(rises) = answer {
-                    total.add(rises);
-                }
-                let refusal = if !events.len().is_multiple_of(2) {
-                    5
-                } else if !rest.len().is_multiple_of(CELLS) {
-                    6
-                } else if *answers < events.len() / 2 {
-                    7
-                } else {
-                    0
-                };
-                let mut expected = vec![UNTOUCHED; *answers];
-                if refusal == 0 {
-                    for (event, answer) in events.chunks_exact(2).zip(&mut expected) {
-                        *answer = number(&ends.event(event[0], event[1], &supply, case.record.len()));
-                    }
-                }
-                different(number(&answer), refusal, || "number of the run".into())
-                    .or_else(|| different(&buffer, &expected, || "answer buffer".into()))
-                    .or_else(|| {
-                        let as_given = refusal == 0 || link == before;
-                        different(as_given, true, || "link of a refused run is as given".into())
-                    })
-            }
+            Call::One { kind, argument } => both.one(step, *kind, *argument),
+            Call::Run { events, answers } => both.run(events, *answers),
         };
         let found = found
-            .or_else(|| state_difference(&link, &ends, total))
-            .or_else(|| record_difference(&record, &case.record, &supply, &ends));
-        if let Some(text) = found {
-            return Some(format!("after call {at}: {text}"));
-        }
+            .or_else(|| state_difference(&both.link, &both.ends, both.total))
+            .or_else(|| record_difference(&both.record, &case.record, &both.supply, &both.ends));
+        found.map(|text| format!("after call {at}: {text}"))
+    })
+}
+
+/// Both ends after some calls of a case.
+struct Both<'a> {
+    case: &'a Case,
+    supply: Vec<Row>,
+    link: Link,
+    ends: Ends,
+    record: Vec<u16>,
+    total: Counts,
+}
+
+impl Both<'_> {
+    /// A call for one event. Question 6 is for the built ends alone.
+    fn one(&mut self, step: Step, kind: u8, argument: u8) -> Option<String> {
+        let rest = &self.case.supply[self.total.sent * CELLS..];
+        let space = &mut self.record[self.total.recorded * CELLS..];
+        let answer = step(&mut self.link, kind, argument, rest, space);
+        self.total.add(answer.unwrap_or_default());
+        let expected = if rest.len().is_multiple_of(CELLS) {
+            number(&self.ends.event(kind, argument, &self.supply, self.case.record.len()))
+        } else {
+            Refusal::SupplyLength as u8
+        };
+        different(number(&answer), expected, || format!("answer to {kind} {argument}"))
     }
-    None
+
+    /// A run. Questions 5 to 7 are for the built ends alone.
+    fn run(&mut self, events: &[u8], answers: usize) -> Option<String> {
+        let rest = &self.case.supply[self.total.sent * CELLS..];
+        let space = &mut self.record[self.total.recorded * CELLS..];
+        let (mut buffer, mut expected) = (vec![UNTOUCHED; answers], vec![UNTOUCHED; answers]);
+        let before = self.link.clone();
+        let answer = self.link.run(events, rest, space, &mut buffer);
+        self.total.add(answer.unwrap_or_default());
+        let refusal = if !events.len().is_multiple_of(2) {
+            5
+        } else if !rest.len().is_multiple_of(CELLS) {
+            6
+        } else if answers < events.len() / 2 {
+            7
+        } else {
+            0
+        };
+        if refusal == 0 {
+            for (event, answer) in events.chunks_exact(2).zip(&mut expected) {
+                *answer = number(&self.ends.event(event[0], event[1], &self.supply, self.case.record.len()));
+            }
+        }
+        different(number(&answer), refusal, || "number of the run".into())
+            .or_else(|| different(&buffer, &expected, || "answer buffer".into()))
+            .or_else(|| {
+                let as_given = refusal == 0 || self.link == before;
+                different(as_given, true, || "link of a refused run is as given".into())
+            })
+    }
 }
 
 /// A difference, in words, where there is one.

@@ -58,7 +58,7 @@ pub fn readings(library: &dyn FrameLibrary, replay: &Replay, amount: Amount) -> 
         }
     }
     let count = frames.len();
-    Ok(format!("library: {count} frames read, {accepted} of them accepted; {written} written again"))
+    Ok(format!("{count} frames read, {accepted} of them accepted; {written} written again"))
 }
 
 /// Writes frames with values at and beyond every edge, with anything where their kind does not look.
@@ -83,5 +83,5 @@ pub fn writings(library: &dyn FrameLibrary, replay: &Replay, amount: Amount, cou
         }
         accepted += usize::from(written(&frame, &mut vec![0; length]).is_ok());
     }
-    Ok(format!("library: {count} frames written, {accepted} of them accepted"))
+    Ok(format!("{count} frames written, {accepted} of them accepted"))
 }

@@ -12,7 +12,7 @@ use crate::met::Met;
 use crate::random::Random;
 use crate::report::{Outcome, Replay};
 use crate::ride_text::words;
-use crate::threads::{seeds, Amount};
+use crate::threads::{seeds, sums, Amount};
 
 /// A call on a made-up link, with the buffers that are lent to it.
 #[derive(Clone)]
@@ -158,14 +158,19 @@ fn one(random: &mut Random, link: &Matlink, kind: u8) -> Try {
     Try { link: link.clone(), call, supply: supply(random), record: record(random) }
 }
 
-/// A run of so many events.
+/// A run of so many events, now and then with ticks enough for the longest wait, half an event or too few answers.
 fn run(random: &mut Random, link: &Matlink, length: usize) -> Try {
     let mut events = vec![];
+    let long = random.once_in(3);
     for _ in 0..length {
         let kind = random_kind(random);
-        events.extend([kind, argument(random, kind)]);
+        let tick = long && random.once_in(3);
+        events.extend(if tick { [8, 255 - random.below(8) as u8] } else { [kind, argument(random, kind)] });
     }
-    let call = Call::Run { events, answers: length };
+    if random.once_in(30) {
+        events.pop();
+    }
+    let call = Call::Run { events, answers: length - usize::from(random.once_in(30)) };
     Try { link: link.clone(), call, supply: supply(random), record: record(random) }
 }
 
@@ -187,15 +192,16 @@ pub fn made_up_links(library: &dyn Library, replay: &Replay, amount: Amount) -> 
         }
         let length = 1 + random.below(24);
         let tried = run(&mut random, &link, length);
-        if tried.differs(library) {
+        let (answer, found) = tried.put(library);
+        met.run(answer);
+        if found.is_some() {
             return Err(replay.failed("links", seed, &tried.report(library)));
         }
-        met.run();
         Ok(events + length as u64)
     })?;
     let met = met.into_iter().reduce(Met::and).unwrap_or_default();
     met.all_there()?;
-    Ok(format!("library: {met}"))
+    Ok(met.to_string())
 }
 
 /// Numbers at and beyond the edges of a link with these limits.
@@ -234,6 +240,6 @@ pub fn damaged_links(library: &dyn Library, replay: &Replay, amount: Amount) -> 
         }
         Ok((NUMBERS * edges.len()) as u64)
     })?;
-    let [links, unsound] = counted.into_iter().fold([0, 0], |sum, more| [sum[0] + more[0], sum[1] + more[1]]);
-    Ok(format!("library: {links} links with one number replaced, {unsound} of them not sound"))
+    let [links, unsound] = sums(counted);
+    Ok(format!("{links} links with one number replaced, {unsound} of them not sound"))
 }

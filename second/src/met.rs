@@ -19,6 +19,9 @@ const REACHABLE: [&[u8]; 9] = [
     &[0, 9],
 ];
 
+/// The answers that a run can give.
+const RUN_REACHABLE: [u8; 5] = [0, 4, 5, 6, 7];
+
 /// Limits at and beyond their edges: the name, and whether a link has it.
 type Edge = (&'static str, fn(&Matlink) -> bool);
 
@@ -33,12 +36,15 @@ const EDGES: [Edge; 8] = [
     ("resend wait of the sum", |link| link.resend_wait == link.data_life + link.reply_life + link.reply_wait),
 ];
 
-/// How often each kind had each answer, and how many links had each edge.
+/// How often each answer came.
+type Answers = [u64; 32];
+
+/// How often each kind had each answer, a run had each, and how many links had each edge.
 #[derive(Clone, Default)]
 pub struct Met {
     links: u64,
-    runs: u64,
-    answers: [[u64; 32]; REACHABLE.len()],
+    runs: Answers,
+    answers: [Answers; REACHABLE.len()],
     edges: [u64; EDGES.len()],
 }
 
@@ -58,20 +64,16 @@ impl Met {
     }
 
     /// A run.
-    pub fn run(&mut self) {
-        self.runs += 1;
+    pub fn run(&mut self, answer: u8) {
+        self.runs[usize::from(answer.min(31))] += 1;
     }
 
     /// Both together.
     pub fn and(mut self, other: Met) -> Met {
         self.links += other.links;
-        self.runs += other.runs;
-        for (mine, more) in self.answers.as_flattened_mut().iter_mut().zip(other.answers.as_flattened()) {
-            *mine += more;
-        }
-        for (mine, more) in self.edges.iter_mut().zip(other.edges) {
-            *mine += more;
-        }
+        add(&mut self.runs, &other.runs);
+        add(self.answers.as_flattened_mut(), other.answers.as_flattened());
+        add(&mut self.edges, &other.edges);
         self
     }
 
@@ -79,38 +81,52 @@ impl Met {
         self.answers.as_flattened().iter().sum()
     }
 
-    /// Whether everything was met, and no answer that a kind cannot give.
+    /// Whether everything was met, and no answer that there cannot be.
     pub fn all_there(&self) -> Result<(), String> {
+        let enough = self.calls() >= ENOUGH;
         for (kind, (answers, reachable)) in self.answers.iter().zip(REACHABLE).enumerate() {
-            for (answer, times) in answers.iter().enumerate() {
-                let can = [4, 6].contains(&answer) || reachable.iter().any(|number| usize::from(*number) == answer);
-                if *times > 0 && !can {
-                    return Err(format!("library, made-up links: kind {kind} answers {answer}"));
-                }
-                if *times == 0 && can && self.calls() >= ENOUGH {
-                    return Err(format!("library, made-up links: kind {kind} never answered {answer}"));
-                }
-            }
+            let reachable = [&[4, 6], reachable].concat();
+            reached(answers, &reachable, enough).map_err(|text| format!("made-up links: kind {kind} {text}"))?;
         }
-        let missing = EDGES.iter().zip(self.edges).find(|(_, times)| *times == 0 && self.calls() >= ENOUGH);
-        missing.map_or(Ok(()), |((name, _), _)| Err(format!("library, made-up links: none with {name}")))
+        reached(&self.runs, &RUN_REACHABLE, enough).map_err(|text| format!("made-up links: a run {text}"))?;
+        let missing = EDGES.iter().zip(self.edges).find(|(_, times)| *times == 0 && enough);
+        missing.map_or(Ok(()), |((name, _), _)| Err(format!("made-up links: none with {name}")))
     }
+}
+
+fn add(sum: &mut [u64], more: &[u64]) {
+    for (mine, more) in sum.iter_mut().zip(more) {
+        *mine += more;
+    }
+}
+
+/// Whether the answers that came are those that can come.
+fn reached(answers: &Answers, reachable: &[u8], enough: bool) -> Result<(), String> {
+    for (answer, times) in (0u8..).zip(answers) {
+        let can = reachable.contains(&answer);
+        if *times > 0 && !can {
+            return Err(format!("answers {answer}"));
+        }
+        if *times == 0 && can && enough {
+            return Err(format!("never answered {answer}"));
+        }
+    }
+    Ok(())
+}
+
+/// The answers that came, each with how often.
+fn counts(answers: &Answers) -> String {
+    let came = |(answer, times): (usize, &u64)| (*times > 0).then(|| format!("{answer}: {times}"));
+    answers.iter().enumerate().filter_map(came).collect::<Vec<_>>().join(", ")
 }
 
 impl fmt::Display for Met {
     fn fmt(&self, out: &mut fmt::Formatter) -> fmt::Result {
-        let (links, runs, calls) = (self.links, self.runs, self.calls());
-        write!(out, "{links} made-up links, {calls} calls for one event and {runs} runs on them; answers")?;
-        for answer in 0..32 {
-            let times: u64 = self.answers.iter().map(|kind| kind[answer]).sum();
-            if times > 0 {
-                write!(out, " {answer}: {times}")?;
-            }
-        }
-        write!(out, "; links with")?;
-        for (at, ((name, _), times)) in EDGES.iter().zip(self.edges).enumerate() {
-            write!(out, "{} {name}: {times}", if at > 0 { "," } else { "" })?;
-        }
-        Ok(())
+        let runs: u64 = self.runs.iter().sum();
+        let all = std::array::from_fn(|answer| self.answers.iter().map(|kind| kind[answer]).sum());
+        write!(out, "{} made-up links, {} calls for one event and {runs} runs on them", self.links, self.calls())?;
+        write!(out, "\n  answers to one event  {}\n  answers of a run  {}", counts(&all), counts(&self.runs))?;
+        let edges: Vec<String> = EDGES.iter().zip(self.edges).map(|((name, _), times)| format!("{name}: {times}")).collect();
+        write!(out, "\n  links with  {}", edges.join(", "))
     }
 }

@@ -47,7 +47,7 @@ fn attempt(case: &mut Case, fails: &dyn Fn(&Case) -> bool, change: impl FnOnce(&
     taken
 }
 
-/// Takes away stretches of calls, from half of them down to two apart and then one.
+/// Takes away stretches of calls, from half of them down to one, then one with what depends on it.
 fn fewer_calls(case: &mut Case, fails: &dyn Fn(&Case) -> bool) {
     let mut size = case.calls.len().div_ceil(2);
     while size > 0 {
@@ -61,39 +61,40 @@ fn fewer_calls(case: &mut Case, fails: &dyn Fn(&Case) -> bool) {
         }
         size /= 2;
     }
-    // without one message, those behind it have a smaller place
     for at in (0..case.calls.len()).rev() {
-        for until in [case.calls.len(), at + 2, at + 3, at + 4] {
-            let taken = attempt(case, fails, |case| {
-                let until = until.min(case.calls.len());
-                for call in &mut case.calls[at + 1..until.max(at + 1)] {
-                    if let Call::One { kind: 2 | 3 | 5 | 6 | 7, argument } = call {
-                        *argument = argument.saturating_sub(1);
-                    }
-                }
-                case.calls.remove(at);
-            });
-            if taken {
-                break;
-            }
-        }
+        fewer_messages(case, fails, at);
     }
-    // a sending and what depends on it often stand apart: two calls at once
-    'again: loop {
-        let length = case.calls.len();
-        for second in (1..length).rev() {
-            for first in (second.saturating_sub(12)..second).rev() {
-                let taken = attempt(case, fails, |case| {
-                    case.calls.remove(second);
-                    case.calls.remove(first);
-                });
-                if taken {
-                    continue 'again;
+    while two_calls(case, fails) {}
+}
+
+/// Takes away a call: without one message, those behind it have a smaller place.
+fn fewer_messages(case: &mut Case, fails: &dyn Fn(&Case) -> bool, at: usize) {
+    for until in [case.calls.len(), at + 2, at + 3, at + 4] {
+        let taken = attempt(case, fails, |case| {
+            let until = until.min(case.calls.len());
+            for call in &mut case.calls[at + 1..until.max(at + 1)] {
+                if let Call::One { kind: 2 | 3 | 5 | 6 | 7, argument } = call {
+                    *argument = argument.saturating_sub(1);
                 }
             }
+            case.calls.remove(at);
+        });
+        if taken {
+            return;
         }
-        return;
     }
+}
+
+/// Takes away two calls at once: a sending and what depends on it often stand apart.
+fn two_calls(case: &mut Case, fails: &dyn Fn(&Case) -> bool) -> bool {
+    (1..case.calls.len()).rev().any(|second| {
+        (second.saturating_sub(12)..second).rev().any(|first| {
+            attempt(case, fails, |case| {
+                case.calls.remove(second);
+                case.calls.remove(first);
+            })
+        })
+    })
 }
 
 /// Two ticks in a row become one.

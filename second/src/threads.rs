@@ -84,3 +84,8 @@ pub fn items<I: Sync, T: Default + Send>(
         Ok(counted)
     })
 }
+
+/// What all threads counted together.
+pub fn sums<const N: usize>(counted: Vec<[u64; N]>) -> [u64; N] {
+    std::array::from_fn(|at| counted.iter().map(|thread| thread[at]).sum())
+}

@@ -6,7 +6,7 @@ use crate::limits::{Limits, CELLS};
 use crate::random::Random;
 use crate::report::{Outcome, Replay};
 use crate::shrink::{flat, shortest};
-use crate::threads::{items, seeds, Amount};
+use crate::threads::{items, seeds, sums, Amount};
 use crate::trial::{output, LONGEST_INPUT};
 use std::io::{Result, Write};
 use std::process::{Command, Stdio};
@@ -118,8 +118,8 @@ pub fn random_trials(program: &str, replay: &Replay, amount: Amount) -> Outcome 
         *counted = [counted[0] + 1, counted[1] + events, counted[2] + u64::from(lines.starts_with(b"refused"))];
         Ok(events)
     })?;
-    let [inputs, events, refused] = counted.into_iter().fold([0; 3], |sum, more| [0, 1, 2].map(|at| sum[at] + more[at]));
-    Ok(format!("trial: {inputs} random inputs, {events} events, {refused} inputs refused"))
+    let [inputs, events, refused] = sums(counted);
+    Ok(format!("{inputs} random inputs, {events} events, {refused} inputs refused"))
 }
 
 fn shown_input(input: &[u8]) -> String {
@@ -147,5 +147,5 @@ pub fn short_trials(program: &str, replay: &Replay, length: u32) -> Outcome {
             Err(report(program, replay, "short-trials", 0, case.clone()))
         }
     })?;
-    Ok(format!("trial: all {} lists of {length} of {} events, w and times 1 and 2", cases.len(), EVENTS.len()))
+    Ok(format!("all {} lists of {length} of {} events, w and times 1 and 2", cases.len(), EVENTS.len()))
 }

@@ -58,7 +58,7 @@ impl Asked {
         self.ran += 1;
         let start = Instant::now();
         match compare(self) {
-            Ok(text) => println!("{name}: {text} ({:.1} s)", start.elapsed().as_secs_f64()),
+            Ok(text) => println!("{name}, {:.1} s: {text}", start.elapsed().as_secs_f64()),
             Err(text) => {
                 println!("{text}");
                 exit(1);

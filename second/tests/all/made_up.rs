@@ -49,6 +49,51 @@ fn every_event_on_made_up_links() {
     }
 }
 
+/// Changes of the link below, each of which breaks one clause of question 4.
+const BROKEN: [fn(&mut Link); 29] = [
+    |link| link.limits.window = 0,
+    |link| link.limits.window = 33,
+    |link| link.limits.data_life = 0,
+    |link| link.limits.reply_life = 251,
+    |link| link.limits.reply_wait = 0,
+    |link| link.limits.resend_wait = 0,
+    |link| link.limits.resend_wait = 18,
+    |link| link.limits.resend_wait = 1001,
+    |link| link.mat.oldest = 6,
+    |link| link.mat.next = 6,
+    |link| link.mat.next = 255,
+    |link| link.pad.wanted = 6,
+    |link| link.mat.next = 2,         // 4 outstanding
+    |link| link.mat.marked[1] = true, // the oldest
+    |link| link.mat.next = 5,         // the mark of row 5 stays
+    |link| link.mat.timers[0] = 20,
+    |link| link.pad.timers[2] = 8,
+    |link| link.data.count = 33,
+    |link| link.replies.count = 33,
+    |link| link.data.messages[1].life = 6,
+    |link| link.data.messages[0].life = 0,
+    |link| link.replies.messages[1].life = 0,
+    |link| link.replies.messages[0].life = 7,
+    |link| link.data.messages[1].number = 6,
+    |link| link.replies.messages[1].last = 6,
+    |link| link.replies.messages[0].last = 2, // span 4
+    |link| link.data.messages[1].row[15] = 4096,
+    |link| link.mat.rows[0][0] = 4096,
+    |link| link.pad.rows[1][7] = 65535,
+];
+
+/// Changes of what question 4 does not look at, or lets pass.
+const FREE: [fn(&mut Link); 8] = [
+    |link| link.mat.marked[3] = true,
+    |link| link.mat.timers[3] = 65535,
+    |link| link.pad.timers[31] = 65535,
+    |link| link.mat.rows[3][0] = 4096,
+    |link| link.pad.rows[0][0] = 4096,
+    |link| link.data.messages[2].life = 65535,
+    |link| link.replies.messages[2].first = 255,
+    |link| link.pad.wanted = 5,
+];
+
 /// One clause of question 4 broken at a time: both calls answer 4 and change nothing.
 #[test]
 fn question_4_clause_by_clause() {
@@ -63,38 +108,7 @@ fn question_4_clause_by_clause() {
     good.replies.messages[0] = Reply { first: 5, last: 1, life: 6 };
     good.replies.messages[1] = Reply { first: 0, last: 0, life: 1 };
     assert!(good.sound());
-    let broken: [fn(&mut Link); 29] = [
-        |link| link.limits.window = 0,
-        |link| link.limits.window = 33,
-        |link| link.limits.data_life = 0,
-        |link| link.limits.reply_life = 251,
-        |link| link.limits.reply_wait = 0,
-        |link| link.limits.resend_wait = 0,
-        |link| link.limits.resend_wait = 18,
-        |link| link.limits.resend_wait = 1001,
-        |link| link.mat.oldest = 6,
-        |link| link.mat.next = 6,
-        |link| link.mat.next = 255,
-        |link| link.pad.wanted = 6,
-        |link| link.mat.next = 2,         // 4 outstanding
-        |link| link.mat.marked[1] = true, // the oldest
-        |link| link.mat.next = 5,         // the mark of row 5 stays
-        |link| link.mat.timers[0] = 20,
-        |link| link.pad.timers[2] = 8,
-        |link| link.data.count = 33,
-        |link| link.replies.count = 33,
-        |link| link.data.messages[1].life = 6,
-        |link| link.data.messages[0].life = 0,
-        |link| link.replies.messages[1].life = 0,
-        |link| link.replies.messages[0].life = 7,
-        |link| link.data.messages[1].number = 6,
-        |link| link.replies.messages[1].last = 6,
-        |link| link.replies.messages[0].last = 2, // span 4
-        |link| link.data.messages[1].row[15] = 4096,
-        |link| link.mat.rows[0][0] = 4096,
-        |link| link.pad.rows[1][7] = 65535,
-    ];
-    for (at, change) in broken.iter().enumerate() {
+    for (at, change) in BROKEN.iter().enumerate() {
         let mut link = good.clone();
         change(&mut link);
         let given = link.clone();
@@ -103,17 +117,7 @@ fn question_4_clause_by_clause() {
         assert_eq!(link.run(&[8, 1], &[], &mut record, &mut answers), Err(Refusal::Unsound), "clause {at}");
         assert!(link == given && record == [3; 16] && answers == [3], "clause {at}");
     }
-    let free: [fn(&mut Link); 8] = [
-        |link| link.mat.marked[3] = true,
-        |link| link.mat.timers[3] = 65535,
-        |link| link.pad.timers[31] = 65535,
-        |link| link.mat.rows[3][0] = 4096,
-        |link| link.pad.rows[0][0] = 4096,
-        |link| link.data.messages[2].life = 65535,
-        |link| link.replies.messages[2].first = 255,
-        |link| link.pad.wanted = 5,
-    ];
-    for (at, change) in free.iter().enumerate() {
+    for (at, change) in FREE.iter().enumerate() {
         let mut link = good.clone();
         change(&mut link);
         assert!(link.sound(), "free value {at}");

@@ -7,6 +7,7 @@ mod frame_checks;
 mod frames;
 mod lists;
 mod made_up;
+mod members;
 mod mistakes;
 mod program;
 mod shrink;

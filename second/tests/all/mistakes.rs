@@ -35,13 +35,10 @@ pub fn step(
 ) -> Result<Counts, Refusal> {
     let before = link.clone();
     let w = before.limits.window;
-    let p = usize::from(argument);
-    let reply = before.replies.all().get(p).copied();
+    let reply = before.replies.all().get(usize::from(argument)).copied();
     match (mistake, kind, reply) {
         (Some(Mistake::EveryHeldRow), 4, _) => {
-            for place in (0..w).filter(|place| before.pad.held[*place]) {
-                link.pad.timers[place] = before.limits.reply_wait;
-            }
+            link.pad.timers = before.pad.held.map(|held| u16::from(held) * before.limits.reply_wait);
             let done = link.step(kind, argument, supply, record);
             link.pad.timers = before.pad.timers;
             done
@@ -59,19 +56,23 @@ pub fn step(
             Ok(done)
         }
         (Some(Mistake::Backwards), 5, Some(Reply { first, last, .. })) if last < first => {
-            let ring = 2 * w;
-            let outstanding = (usize::from(before.mat.next) + ring - usize::from(before.mat.oldest)) % ring;
-            let from = (usize::from(last) + ring - usize::from(before.mat.oldest)) % ring;
-            let span = usize::from(first - last) + 1;
-            // the numbers not in the reply's span, and its two ends: more than w, so never all outstanding
-            assert!(from + span > outstanding);
-            Err(Refusal::SpanNotOutstanding)
+            Err(read_backwards(&before, usize::from(first), usize::from(last)))
         }
         (Some(Mistake::OldestFirst), 5, Some(Reply { first, .. })) if first != before.mat.oldest => {
             link.step(7, argument, supply, record)
         }
         _ => link.step(kind, argument, supply, record),
     }
+}
+
+/// The answer to a reply over the ring's end that is read backwards: the numbers not in its span, and its two ends. They are more
+/// than w, so never all outstanding.
+fn read_backwards(link: &Link, first: usize, last: usize) -> Refusal {
+    let ring = 2 * link.limits.window;
+    let (oldest, next) = (usize::from(link.mat.oldest), usize::from(link.mat.next));
+    let (outstanding, from) = ((next + ring - oldest) % ring, (last + ring - oldest) % ring);
+    assert!(from + (first - last + 1) > outstanding);
+    Refusal::SpanNotOutstanding
 }
 
 fn every_held_row(link: &mut Link, kind: u8, argument: u8, supply: &[u16], record: &mut [u16]) -> Result<Counts, Refusal> {
