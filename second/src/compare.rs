@@ -75,7 +75,7 @@ pub fn compare_with(case: &Case, step: Step) -> Option<String> {
         let found = found
             .or_else(|| state_difference(&both.link, &both.ends, both.total))
             .or_else(|| record_difference(&both.record, &case.record, &both.supply, &both.ends));
-        found.map(|text| format!("after call {at}: {text}"))
+        found.map(|text| format!("after call {}: {text}", at + 1))
     })
 }
 

@@ -118,9 +118,11 @@ impl Pair {
         if p != e {
             return members(&Matlink::from(&p), &Matlink::from(&e));
         }
-        let bad_mark = |mark: &u16| *mark > 1;
-        if kept.mat_mark.iter().chain(&kept.pad_mark).any(bad_mark) {
-            return Some(format!("marks other than 0 and 1: {:?} {:?}", kept.mat_mark, kept.pad_mark));
+        let marks = [("mat_mark", &kept.mat_mark), ("pad_mark", &kept.pad_mark)];
+        for (name, marks) in marks {
+            if let Some(at) = marks.iter().position(|mark| *mark > 1) {
+                return Some(format!("{name}[{at}]: library {}, expected 0 or 1", marks[at]));
+            }
         }
         // of what is free, question 4 asks about these alone
         let long = (0..p.limits.window).find(|place| proved.pad.timers[*place] > p.limits.reply_wait);

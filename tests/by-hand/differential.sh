@@ -8,6 +8,6 @@ mkdir -p target
 rt check trial >target/differential.log 2>&1 || { tail -n 20 target/differential.log; exit 1; }
 rt staticlib exports >target/differential.log 2>&1 || { tail -n 20 target/differential.log; exit 1; }
 bash second/cargo.sh build --bins
-start=$SECONDS
-second/target/proved/tests/differential target/bin/trial --events "${1:-100000000}" --seed "${2:-1000000}"
-echo "$((SECONDS - start)) s"
+events=${1:-100000000} seed=${2:-1000000} start=$SECONDS
+second/target/proved/tests/differential target/bin/trial --events "$events" --seed "$seed"
+echo "$events events from seed $seed: $((SECONDS - start)) s"

@@ -12,6 +12,7 @@ use second::library::{rises, Asked, Lent, Library, Rises};
 use second::limits::{number, Limits, Refusal};
 use second::links::{damaged_links, made_up_links};
 use second::matlink::{Matlink, NUMBERS};
+use second::met::Met;
 use second::random::Random;
 use second::report::Replay;
 use second::short::{all_short, Short};
@@ -124,6 +125,18 @@ fn each_mistake_is_found_by_made_up_links() {
         let report = made_up_links(&wrong, &replay(), Amount { seed: 0, events: 100_000 }).expect_err("it is found");
         assert!(report.lines().count() < 40, "{mistake:?}: {report}");
     }
+}
+
+/// An answer that never comes, in calls enough, and one that cannot come.
+#[test]
+fn answers_left_out_are_found_out() {
+    let (mut few, mut many, mut wrong) = (Met::default(), Met::default(), Met::default());
+    few.answer(1, 0);
+    (0..60_000).for_each(|_| many.answer(1, 0));
+    wrong.answer(6, 20);
+    assert_eq!(few.all_there(), Ok(()));
+    assert_eq!(many.all_there(), Err("made-up links: kind 0 never answered 4".into()));
+    assert_eq!(wrong.all_there(), Err("made-up links: kind 6 answers 20".into()));
 }
 
 /// A report has the seed, the command that finds the same again, and a ride.

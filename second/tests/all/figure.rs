@@ -104,5 +104,5 @@ fn the_figure_itself() {
         step(Some(Mistake::EveryHeldRow), link, kind, argument, rest, space)
     });
     let found = found.expect("the wrong link differs");
-    assert!(found.starts_with("after call 18: counts"), "{found}");
+    assert!(found.starts_with("after call 19: counts"), "{found}");
 }

@@ -121,7 +121,7 @@ fn differs(window: usize, events: &[(u8, u8)], wrong: Step, found: &str) {
 #[test]
 fn a_reply_that_covers_every_held_row() {
     let events = [(1, 0), (1, 0), (6, 0), (3, 0), (8, 4), (2, 1), (2, 0), (3, 1), (4, 0)];
-    differs(2, &events, every_held_row, "after call 8: counts");
+    differs(2, &events, every_held_row, "after call 9: counts");
 }
 
 /// The held row whose resend came: the wrong pad has nothing to reply, now and after every further resend.
@@ -132,7 +132,7 @@ fn a_reply_timer_set_at_the_first_arrival_only() {
         events.extend([(2, 0), (3, 0), (8, 4)]);
     }
     events.extend([(2, 0), (3, 0), (4, 0), (5, 0)]);
-    differs(1, &events, first_arrival_only, "after call 4: held row 0");
+    differs(1, &events, first_arrival_only, "after call 5: held row 0");
     let case = Case { limits: limits(1, 1, 1, 1, 4), supply: supply(8), record: record(8), calls: ones(&events) };
     let (_, mut link) = Link::open(case.limits);
     let mut answers = vec![];
@@ -146,7 +146,7 @@ fn a_reply_timer_set_at_the_first_arrival_only() {
 /// The second resend at once: two messages of one row are in the air.
 #[test]
 fn a_resend_timer_started_once() {
-    differs(1, &[(1, 0), (8, 4), (2, 0), (2, 0)], first_sending_only, "after call 2: mark and resend timer of row 0");
+    differs(1, &[(1, 0), (8, 4), (2, 0), (2, 0)], first_sending_only, "after call 3: mark and resend timer of row 0");
 }
 
 /// A reply of rows 3 and 4, numbers 3 and 0.
@@ -154,14 +154,14 @@ fn a_resend_timer_started_once() {
 fn a_reply_read_backwards() {
     let mut events = [(1, 0), (3, 0), (4, 0), (5, 0)].repeat(3);
     events.extend([(1, 0), (1, 0), (3, 0), (3, 0), (4, 0), (5, 0)]);
-    differs(2, &events, backwards, "after call 17: answer to 5 0");
+    differs(2, &events, backwards, "after call 18: answer to 5 0");
 }
 
 /// Case I: the reply for row 1 comes first.
 #[test]
 fn a_mark_that_waits_for_the_oldest_row() {
     let events = [(1, 0), (1, 0), (3, 0), (4, 0), (3, 0), (4, 0), (5, 1), (2, 1), (5, 0)];
-    differs(2, &events, oldest_first, "after call 6: mark and resend timer of row 1");
+    differs(2, &events, oldest_first, "after call 7: mark and resend timer of row 1");
 }
 
 /// The random lists find each of the five, and each is cut to a short list. All short lists find them, too.
