@@ -3,14 +3,14 @@
 # names. Not part of the gate, whose own stages are printed by .ci/run.
 set -euo pipefail
 cd "$(dirname "$0")/../.."
-mkdir -p target
 start=$SECONDS
-rt prove >/tmp/times.$$ 2>&1 || { tail -n 20 /tmp/times.$$; exit 1; }
+log=$(mktemp)
+trap 'rm -f "$log"' EXIT
+rt prove >"$log" 2>&1 || { tail -n 20 "$log"; exit 1; }
 echo '| crate | check |'
 echo '|---|---|'
-sed -n 's/^rt: \([a-z]*\) proved (\([0-9]*\) s)$/| `\1` | \2 s |/p' /tmp/times.$$
+sed -n 's/^rt: \([a-z]*\) proved (\([0-9]*\) s)$/| `\1` | \2 s |/p' "$log"
 echo "all proofs: $((SECONDS - start)) s"
-rm -f /tmp/times.$$
 
 # lines NAME PATH..: lines of definitions, without empty lines, comments and `use` lines
 lines() { echo "$1: $(cat "${@:2}" | grep -cvE '^ *(--.*)?$|^use |^pub mod ')"; }
@@ -19,4 +19,4 @@ lines 'a ride' $(specs limits unbounded ride)
 lines 'the link and demand 3' crates/events/specs/{State,Rules,View}.antt $(specs lists runs link) $(specs agreement)
 lines 'the parts' $(specs tables air mat pad)
 lines 'frames' $(specs frames)
-lines 'C' $(specs exports) crates/events/specs/Lent.antt
+lines 'C' $(specs cframes exports) crates/events/specs/Lent.antt
