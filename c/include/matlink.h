@@ -219,7 +219,7 @@ static inline uint8_t matlink_open(struct matlink *link, uint32_t window, uint32
  * Asked in this order: the link is sound (4), the supply is whole rows (6), kind (8), argument (9); then
  *    send                    10, 11, 12, 13
  *    resend                  14, 15, 16, 13
- *    data arrives            17, and 18 if its row was recorded before
+ *    data arrives            17, and 18 if its row is old: its number is none of the w from wanted on
  *    reply                   20, 21, 18
  *    a reply arrives         17, 19
  *    data or reply is lost   17

@@ -72,8 +72,3 @@ pub same-marks : (l : Limits) (n : Numbers) (lent : Arrays) (oldest : ℕ) (mark
     → linkOf l n (arrays marks (lent .mattimers) (lent .matcells) (lent .held) (lent .padtimers) (lent .padcells) (lent .datas) (lent .replies)) ≡ linkOf l n lent
 same-marks l n lent oldest marks e =
     ap (λ (m : Mat). linkOf l n (arrays (m .marks) (lent .mattimers) (lent .matcells) (lent .held) (lent .padtimers) (lent .padcells) (lent .datas) (lent .replies))) e
-
--- what an event gives, by other names of its numbers and counts
-pub step-as : (P : Step → Type 0) (a : Answer) (n n' : Numbers) (m m' : Counts) → n ≡ n' → m ≡ m' → P (record { answer = a; numbers = n'; counts = m' })
-    → P (record { answer = a; numbers = n; counts = m })
-step-as P a n n' m m' e f h = rw (e, f) h

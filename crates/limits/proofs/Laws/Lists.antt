@@ -11,7 +11,7 @@ use lib.ListN.{length, take, drop, getD, set, length-append, length-take, length
 use lib.Seq.{getD-at, getD-append-add, ext-getD, getD-drop, getD-take, getD-set-same, getD-set-other}
 use Rattle.limits.specs.Lists.{tab, all, leading, joined}
 use Rattle.limits.specs.Questions.{pick}
-use Rattle.limits.proofs.Laws.Choice.{and-left, and-right, and-swap, both, clash, split, test, pick-yes, pick-no, pick-cases}
+use Rattle.limits.proofs.Laws.Choice.{and-left, and-right, and-swap, both, split, test, pick-yes, pick-no, pick-cases}
 
 module _ {A : Type 0} where
   pub length-tab : (n : ℕ) (f : ℕ → A) → length (tab n f) ≡ n
@@ -110,9 +110,6 @@ module _ {A : Type 0} where
         joined : (all p (tab n f) && (p (f n) && true)) ≡ true
         joined = sym (all-append (tab n f) (f n ∷ [])) ∙ e
 
-    pub all-tab-no : (n : ℕ) (f : ℕ → A) (i : ℕ) → i < n → p (f i) ≡ false → all p (tab n f) ≡ false
-    all-tab-no n f i h e = test (all p (tab n f)) (λ a. absurd (clash (p (f i)) (all-tab-at n f a i h) e)) (λ a. a)
-
 pub all-map : {A B : Type 0} (p : B → Bool) (f : A → B) (xs : List A) → all p (map f xs) ≡ all (λ x. p (f x)) xs
 unfolding all
 all-map p f [] = refl
@@ -123,14 +120,11 @@ unfolding tab
 map-tab g zero f = refl
 map-tab g (suc n) f = map-append g (tab n f) (f n ∷ []) ∙ ap (_++ (g (f n) ∷ [])) (map-tab g n f)
 
--- a loop over the indexes below n that tests each: where it starts, and where it ends
+-- a loop over the indexes below n that tests each: where it starts
 module _ {A : Type 0} (p : A → Bool) (f : ℕ → A) where
   pub all-start : all p (tab 0 f) ≡ true
   unfolding tab all
   all-start = refl
-
-  pub all-end : (n i : ℕ) → all p (tab i f) ≡ true → i ≡ n → true ≡ all p (tab n f)
-  all-end n i e q = sym (rw q at e)
 
   -- the same of a loop that gathers its tests in a flag: where it starts, a turn, and where it ends
   pub flag-start : true ≡ all p (tab 0 f)

@@ -19,10 +19,6 @@ use Rattle.events.specs.declared.Progress.{Progress}
 use Rattle.events.specs.declared.moves.Numbers.{Numbers}
 use Rattle.events.specs.Lent.{Arrays, arrays, numbersOf, linkOf}
 
-abbrev pub arraysOf : Link → Arrays
-arraysOf k =
-    arrays (k .mat .marks) (k .mat .timers) (k .mat .cells) (k .pad .held) (k .pad .timers) (k .pad .cells) (k .datas .words) (k .replies .words)
-
 -- the arrays of a link, each by another name
 module _ (k : Link) (n : Numbers) (marks : List Bool) (mattimers matcells : List ℕ) (held : List Bool) (padtimers padcells datas replies : List ℕ)
     (en : n ≡ numbersOf k) (em : marks ≡ k .mat .marks) (et : mattimers ≡ k .mat .timers) (ec : matcells ≡ k .mat .cells) (eh : held ≡ k .pad .held)
