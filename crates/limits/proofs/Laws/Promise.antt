@@ -1,5 +1,5 @@
 -- Laws on what a call promises: from the first no to the two records that contracts cite.
-use Prim.Native.Nat.{ℕ, _≤_, _<_}
+use Prim.Native.Nat.{ℕ, zero, suc, _≤_, _<_}
 use mathlib.Core.Path.{_≡_, refl, sym, _∙_, ap, ap₂}
 use mathlib.Core.Bool.{Bool, true, false}
 use mathlib.Core.List.{List, [], _∷_}
@@ -14,9 +14,14 @@ use Rattle.limits.specs.Questions.{pick, Question, ask, firstNo, Answers
 use Rattle.limits.proofs.answer.Answer.{the-type}
 use Rattle.limits.proofs.Laws.Choice.{pick-yes, pick-no, pick-under}
 
+-- n numbers from a on
+abbrev upFrom : ℕ → ℕ → List ℕ
+upFrom a zero = []
+upFrom a (suc n) = a ∷ upFrom (suc a) n
+
 -- the tags of the answers other than `Done`
 abbrev pub refusals : List ℕ
-refusals = 1 ∷ 2 ∷ 3 ∷ 4 ∷ 5 ∷ 6 ∷ 7 ∷ 8 ∷ 9 ∷ 10 ∷ 11 ∷ 12 ∷ 13 ∷ 14 ∷ 15 ∷ 16 ∷ 17 ∷ 18 ∷ 19 ∷ 20 ∷ 21 ∷ 22 ∷ 23 ∷ 24 ∷ 25 ∷ 26 ∷ 27 ∷ 28 ∷ 29 ∷ []
+refusals = upFrom 1 29
 
 -- the else of a `let Answer::Done = answer else`
 pub not-done : (a : Answer) → OneOf refusals (tagOf the-type a) → eqb (numberOf a) 0 ≡ false
