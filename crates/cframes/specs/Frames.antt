@@ -9,7 +9,8 @@ use Rattle.limits.specs.Questions.{pick, Question, ask, firstNo}
 use Rattle.frames.specs.declared.DataFrame.{DataFrame}
 use Rattle.frames.specs.declared.ReplyFrame.{ReplyFrame}
 use Rattle.frames.specs.Layout.{Reading, reading, dataInto, replyInto}
-use Rattle.frames.specs.Rules.{readQuestions, writeDataQuestions, writeReplyQuestions, Writing, writing}
+use Rattle.bytes.specs.Buffers.{Writing, writing, WriteNumber}
+use Rattle.frames.specs.Rules.{readQuestions, writeDataQuestions, writeReplyQuestions}
 
 pub record Fields : Type 0 where
   pub head : List ℕ
@@ -53,7 +54,6 @@ unfoldable pub frameInto : List ℕ → List ℕ → List ℕ → Writing
 frameInto h cells buffer =
     pick (eqb (kindIn h) 1) (writing 36 (dataInto (dataIn h cells) buffer)) (writing 5 (replyInto (replyIn h) buffer))
 
--- The number, how many bytes were written, and the whole buffer; a refused frame writes 0 bytes.
-pub record WriteFrame (h cells before after : List ℕ) (count r : ℕ) : Type 0 where
-  pub number : r ≡ firstNo (writeQuestions h cells before)
-  pub result : writing count after ≡ pick (eqb (firstNo (writeQuestions h cells before)) 0) (frameInto h cells before) (writing 0 before)
+-- the number, how many bytes were written, and the whole buffer
+abbrev pub WriteFrame : List ℕ → List ℕ → List ℕ → List ℕ → ℕ → ℕ → Type 0
+WriteFrame h cells before after count r = WriteNumber (writeQuestions h cells before) (frameInto h cells before) before after count r

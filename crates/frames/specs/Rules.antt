@@ -12,7 +12,6 @@ use Rattle.limits.specs.Tables.{span}
 use Rattle.frames.specs.declared.DataFrame.{DataFrame}
 use Rattle.frames.specs.declared.ReplyFrame.{ReplyFrame}
 use Rattle.frames.specs.declared.FrameRead.{FrameRead}
-use Rattle.frames.specs.declared.Written.{Written}
 use Rattle.frames.specs.Layout.{isData, isReply, dataOf, replyOf, Reading, nothingRead}
 
 -- What is asked of the values of a frame, read or written. Of every frame: w 1 to 32, its numbers below 2w, its life 1 to 250.
@@ -52,15 +51,3 @@ writeReplyQuestions f buffer = replyQuestions f ++ (ask 28 (leb 5 (length buffer
 abbrev pub ReadCall : List Question → Reading → FrameRead → Type 0
 ReadCall questions done r =
     Answers questions (r .answer) (record { kind = r .kind; dataframe = r .dataframe; replyframe = r .replyframe }) done nothingRead
-
--- What a writer gives: how many bytes it wrote, and the whole buffer afterwards.
-pub record Writing : Type 0 where
-  pub count : ℕ
-  pub buffer : List ℕ
-
-abbrev pub writing : ℕ → List ℕ → Writing
-writing n bytes = record { count = n; buffer = bytes }
-
--- A refused write counts 0 bytes and leaves the buffer as it was.
-abbrev pub WriteCall : List Question → Writing → Written → List ℕ → List ℕ → Type 0
-WriteCall questions done r entry exit = Answers questions (r .answer) (writing (r .count) exit) done (writing 0 entry)

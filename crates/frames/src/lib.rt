@@ -26,9 +26,9 @@ ghost use Rattle.frames.specs.Rules.{
   writeDataQuestions,
   writeReplyQuestions,
   ReadCall,
-  writing,
-  WriteCall,
 };
+ghost use Rattle.bytes.specs.Buffers.{writing, WriteCall};
+use bytes::Written;
 use limits::answer::Answer;
 
 // A row under its number (a data packet).
@@ -53,12 +53,6 @@ pub struct FrameRead {
     pub kind: u8,
     pub dataframe: DataFrame,
     pub replyframe: ReplyFrame,
-}
-
-// `count` bytes were written.
-pub struct Written {
-    pub answer: Answer,
-    pub count: usize,
 }
 
 // 24, 25, 26 of a frame with the numbers first and last.
@@ -309,12 +303,6 @@ fn put_reply(f: ReplyFrame, buffer: &mut [u8])
     buffer[4] = f.last as u8;
 }
 
-fn not_written(answer: Answer) -> Written
-    ensures { λ r. ⌜ r ≡ record { answer = answer; count = 0 } ⌝ }
-{
-    Written { answer, count: 0 }
-}
-
 // 24, 25, 26, 12, 28.
 pub fn write_data(f: DataFrame, buffer: &mut [u8]) -> Written
     ensures { λ r. ⌜ WriteCall (writeDataQuestions f (now (buffer .entry)))
@@ -322,7 +310,7 @@ pub fn write_data(f: DataFrame, buffer: &mut [u8]) -> Written
 {
     let answer = data_answer(f);
     let Answer::Done = answer else {
-        return not_written(answer);
+        return bytes::not_written(answer);
     };
     if 36 <= buffer.len() {
         put_data(f, buffer);
@@ -331,7 +319,7 @@ pub fn write_data(f: DataFrame, buffer: &mut [u8]) -> Written
             count: 36,
         }
     } else {
-        not_written(Answer::ShortBuffer)
+        bytes::not_written(Answer::ShortBuffer)
     }
 }
 
@@ -342,7 +330,7 @@ pub fn write_reply(f: ReplyFrame, buffer: &mut [u8]) -> Written
 {
     let answer = reply_answer(f);
     let Answer::Done = answer else {
-        return not_written(answer);
+        return bytes::not_written(answer);
     };
     if 5 <= buffer.len() {
         put_reply(f, buffer);
@@ -351,6 +339,6 @@ pub fn write_reply(f: ReplyFrame, buffer: &mut [u8]) -> Written
             count: 5,
         }
     } else {
-        not_written(Answer::ShortBuffer)
+        bytes::not_written(Answer::ShortBuffer)
     }
 }

@@ -7,7 +7,7 @@ use lib.ListN.{replicate}
 use Rattle.limits.specs.Questions.{pick}
 use Rattle.limits.specs.Lists.{tab}
 use Rattle.lines.specs.Input.{readable, limitsOf, cellAt, supplyOf, eventBytes}
-use Rattle.lines.specs.Text.{decimal, eventLine, eventLines, countsLine, refusedLine, wrote}
+use Rattle.lines.specs.Text.{decimal, eventLine, eventLines, countsLine, refusedLine}
 
 -- half a row: eight cells, each 5, low byte first
 abbrev fives : List ℕ
@@ -72,8 +72,3 @@ pub digits : (decimal 0 ≡ 48 ∷ []) × (decimal 9 ≡ 57 ∷ []) × (decimal 
     × (decimal 100 ≡ 49 ∷ 48 ∷ 48 ∷ []) × (decimal 255 ≡ 50 ∷ 53 ∷ 53 ∷ [])
 unfolding decimal pick
 digits = (refl, refl, refl, refl, refl, refl)
-
--- two bytes written into the middle of five
-pub written-between : wrote 2 (8 ∷ 9 ∷ []) (1 ∷ 2 ∷ 3 ∷ 4 ∷ 5 ∷ []) ≡ 1 ∷ 2 ∷ 8 ∷ 9 ∷ 5 ∷ []
-unfolding wrote
-written-between = refl

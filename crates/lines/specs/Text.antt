@@ -1,13 +1,9 @@
 -- The trial's output, in ASCII bytes.
-use Prim.Native.Nat.{ℕ, _+_, _/_, _%_}
-use mathlib.Core.Path.{_≡_}
+use Prim.Native.Nat.{ℕ, _/_, _%_}
 use mathlib.Core.List.{List, [], _∷_, _++_}
 use lib.Dec.{ltb}
-use lib.ListN.{length, take, drop}
 use Rattle.limits.specs.Questions.{pick}
-
-abbrev pub digit : ℕ → ℕ
-digit d = 48 + d
+use Rattle.bytes.specs.Ascii.{digit, space, newline}
 
 -- a number below 1000, without leading zeros
 unfoldable pub decimal : ℕ → List ℕ
@@ -15,12 +11,6 @@ decimal n =
     pick (ltb n 10) (digit n ∷ [])
     (pick (ltb n 100) (digit (n / 10) ∷ digit (n % 10) ∷ [])
     (digit (n / 100) ∷ digit (n / 10 % 10) ∷ digit (n % 10) ∷ []))
-
-abbrev pub space : List ℕ
-space = 32 ∷ []
-
-abbrev pub newline : List ℕ
-newline = 10 ∷ []
 
 -- "sent "
 abbrev pub sentWord : List ℕ
@@ -54,12 +44,3 @@ countsLine sent acknowledged recorded =
 
 unfoldable pub refusedLine : ℕ → List ℕ
 refusedLine n = refusedWord ++ decimal n ++ newline
-
--- what a buffer holds once `text` is written at `at`
-unfoldable pub wrote : ℕ → List ℕ → List ℕ → List ℕ
-wrote at text buffer = take at buffer ++ (text ++ drop (at + length text) buffer)
-
--- what each writer promises: the whole buffer afterwards, and the place behind the text
-pub record Wrote (at : ℕ) (text before after : List ℕ) (next : ℕ) : Type 0 where
-  pub buffer : after ≡ wrote at text before
-  pub behind : next ≡ at + length text

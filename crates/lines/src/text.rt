@@ -1,5 +1,4 @@
 // Inner: called by report. Each function writes at a place of a buffer that has room, and gives the place behind.
-ghost use mathlib.Core.Path.{_≡_};
 ghost use Prim.Native.Nat.{_+_, _*_, _≤_, _<_};
 ghost use mathlib.Core.List.{_++_};
 ghost use lib.ListN.{length};
@@ -9,20 +8,8 @@ ghost use Rattle.lines.specs.Text.{
   eventLines,
   countsLine,
   refusedLine,
-  Wrote,
 };
-
-pub fn word(buffer: &mut [u8], at: usize, text: &[u8]) -> usize
-    requires { ⌜ at + length (now text) ≤ length (now buffer) ⌝ }
-    ensures { λ r. ⌜ Wrote at (now (text .entry)) (now (buffer .entry)) (now (buffer .exit)) r ⌝ }
-{
-    let mut i = 0;
-    while i < text.len() {
-        buffer[at + i] = text[i];
-        i += 1;
-    }
-    at + i
-}
+ghost use Rattle.bytes.specs.Buffers.{Wrote};
 
 // Decimal, without leading zeros.
 pub fn number(buffer: &mut [u8], at: usize, n: u8) -> usize
@@ -50,7 +37,7 @@ fn field(buffer: &mut [u8], at: usize, n: u8, text: &[u8]) -> usize
     ensures { λ r. ⌜ Wrote at (decimal n ++ now (text .entry)) (now (buffer .entry)) (now (buffer .exit)) r ⌝ }
 {
     let next = number(buffer, at, n);
-    word(buffer, next, text)
+    bytes::word(buffer, next, text)
 }
 
 pub fn event_line(buffer: &mut [u8], at: usize, kind: u8, argument: u8, answer: u8) -> usize
@@ -84,7 +71,7 @@ pub fn counts_line(buffer: &mut [u8], at: usize, sent: u8, acknowledged: u8, rec
     requires { ⌜ at + 40 ≤ length (now buffer) ⌝ }
     ensures { λ r. ⌜ Wrote at (countsLine sent acknowledged recorded) (now (buffer .entry)) (now (buffer .exit)) r ⌝ }
 {
-    let first = word(buffer, at, b"sent ");
+    let first = bytes::word(buffer, at, b"sent ");
     let second = field(buffer, first, sent, b" acknowledged ");
     let third = field(buffer, second, acknowledged, b" recorded ");
     field(buffer, third, recorded, b"\n")
@@ -94,6 +81,6 @@ pub fn refused_line(buffer: &mut [u8], at: usize, n: u8) -> usize
     requires { ⌜ at + 12 ≤ length (now buffer) ⌝ }
     ensures { λ r. ⌜ Wrote at (refusedLine n) (now (buffer .entry)) (now (buffer .exit)) r ⌝ }
 {
-    let next = word(buffer, at, b"refused ");
+    let next = bytes::word(buffer, at, b"refused ");
     field(buffer, next, n, b"\n")
 }

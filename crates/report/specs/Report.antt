@@ -3,13 +3,14 @@ use Prim.Native.Nat.{ℕ, _+_, _*_, _≤_}
 use mathlib.Core.List.{List, [], _∷_, _++_}
 use lib.Dec.{eqb, leb}
 use lib.ListN.{length, drop, replicate}
-use Rattle.limits.specs.Questions.{pick, Question, ask, firstNo, Answers}
+use Rattle.limits.specs.Questions.{pick, Question, ask, firstNo}
 use Rattle.unbounded.specs.Ends.{Ends}
 use Rattle.events.specs.declared.Counts.{Counts}
 use Rattle.lines.specs.Input.{readable, limitsOf, supplyOf, eventBytes}
 use Rattle.lines.specs.Text.{eventLines, countsLine, refusedLine}
 use Rattle.ride.specs.Ride.{rideQuestions, endsOf, answersOf}
-use Rattle.report.specs.declared.Reported.{Reported}
+use Rattle.bytes.specs.declared.Written.{Written}
+use Rattle.bytes.specs.Buffers.{writing, WriteCall}
 
 -- An output of this length has room for the text of every input: 12 bytes for two of an event, and 40 for the counts.
 abbrev pub outputLength : ℕ
@@ -38,20 +39,14 @@ rideText input =
 unfoldable pub textOf : List ℕ → List ℕ
 textOf input = pick (eqb (firstNo (trialQuestions input)) 0) (rideText input) (refusedLine (firstNo (trialQuestions input)))
 
--- how many bytes were written, and the output's contents
-pub record Printed : Type 0 where
-  pub count : ℕ
-  pub buffer : List ℕ
-
 -- 28, of the output
 abbrev pub outputQuestions : List ℕ → List Question
 outputQuestions output = ask 28 (leb outputLength (length output)) ∷ []
 
 -- The text stands at the front, and behind it the output is as it was.
-abbrev pub Reports : List ℕ → List ℕ → List ℕ → Reported → Type 0
+abbrev pub Reports : List ℕ → List ℕ → List ℕ → Written → Type 0
 Reports input before after r =
-    Answers {X = Printed} (outputQuestions before) (r .answer) (record { count = r .count; buffer = after })
-    (record { count = length (textOf input); buffer = textOf input ++ drop (length (textOf input)) before }) (record { count = 0; buffer = before })
+    WriteCall (outputQuestions before) (writing (length (textOf input)) (textOf input ++ drop (length (textOf input)) before)) r before after
 
 -- what the writer of the lines asks for: room, an answer for each event, and counts of at most three digits
 pub record Room (output events answers : List ℕ) (counts : Counts) : Type 0 where

@@ -6,15 +6,12 @@ ghost use mathlib.Core.List.{_++_};
 ghost use lib.ListN.{length};
 ghost use Rattle.limits.specs.Answer.{numberOf};
 ghost use Rattle.lines.specs.Input.{readable};
-ghost use Rattle.lines.specs.Text.{eventLines, countsLine, refusedLine, Wrote};
+ghost use Rattle.bytes.specs.Buffers.{Wrote};
+ghost use Rattle.lines.specs.Text.{eventLines, countsLine, refusedLine};
 ghost use Rattle.report.specs.Report.{outputLength, noAnswers, textOf, Room, Reports};
+use bytes::Written;
 use events::Counts;
 use limits::answer::Answer;
-
-pub struct Reported {
-    pub answer: Answer,
-    pub count: usize,
-}
 
 fn small(n: usize) -> u8
     requires { ⌜ n ≤ 255 ⌝ }
@@ -93,19 +90,16 @@ fn text(input: &[u8], output: &mut [u8]) -> usize
 }
 
 // What the trial prints for this input, at the front of the output: 28.
-pub fn report(input: &[u8], output: &mut [u8]) -> Reported
+pub fn report(input: &[u8], output: &mut [u8]) -> Written
     ensures { λ r. ⌜ Reports (now (input .entry)) (now (output .entry)) (now (output .exit)) r ⌝ }
 {
     if 245760 <= output.len() {
         let count = text(input, output);
-        Reported {
+        Written {
             answer: Answer::Done,
             count,
         }
     } else {
-        Reported {
-            answer: Answer::ShortBuffer,
-            count: 0,
-        }
+        bytes::not_written(Answer::ShortBuffer)
     }
 }

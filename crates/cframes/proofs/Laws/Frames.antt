@@ -14,9 +14,10 @@ use Rattle.limits.proofs.Laws.Promise.{none-no, done-of}
 use Rattle.frames.specs.declared.DataFrame.{DataFrame}
 use Rattle.frames.specs.declared.ReplyFrame.{ReplyFrame}
 use Rattle.frames.specs.declared.FrameRead.{FrameRead}
-use Rattle.frames.specs.declared.Written.{Written}
+use Rattle.bytes.specs.declared.Written.{Written}
+use Rattle.bytes.specs.Buffers.{Writing, writing, WriteCall}
 use Rattle.frames.specs.Layout.{byte, isData, Reading, reading, dataOf, replyOf, dataRead, replyRead, nothingRead, dataInto, replyInto}
-use Rattle.frames.specs.Rules.{readQuestions, ReadCall, dataQuestions, replyQuestions, writeDataQuestions, writeReplyQuestions, Writing, writing, WriteCall}
+use Rattle.frames.specs.Rules.{readQuestions, ReadCall, dataQuestions, replyQuestions, writeDataQuestions, writeReplyQuestions}
 use Rattle.frames.proofs.Laws.Values.{data-fits, reply-fits}
 use Rattle.frames.proofs.Laws.Reading.{data-kind, reply-kind, accepted-kind}
 use Rattle.frames.specs.Meanings.{ReadAs}

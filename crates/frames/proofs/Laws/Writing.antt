@@ -12,7 +12,7 @@ use Rattle.limits.specs.declared.answer.Answer.the-variants.{Done, ShortBuffer}
 use Rattle.limits.specs.Answer.{numberOf}
 use Rattle.limits.specs.Questions.{Question, ask, firstNo, Answers}
 use Rattle.limits.proofs.Laws.Promise.{answers-done, answers-refused}
-use Rattle.frames.specs.Rules.{writing}
+use Rattle.bytes.specs.Buffers.{writing}
 use Rattle.limits.proofs.Laws.Questions.{numbered, more-stays, more-passes, more-fails}
 
 -- four bytes in front of the cells

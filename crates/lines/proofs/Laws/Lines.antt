@@ -1,35 +1,14 @@
 -- Laws on the loop that writes a line for each event.
 use Prim.Native.Nat.{ℕ, suc, _+_, _*_, _≤_, _<_}
-use mathlib.Core.Path.{_≡_, refl, sym, _∙_, ap, ap₂}
+use mathlib.Core.Path.{_≡_, refl, _∙_, ap, ap₂}
 use mathlib.Core.List.{List, [], _∷_, _++_}
 use native.Mathlib.Omega.{arith}
 use lib.ListN.{length, drop, getD, length-append, length-drop}
 use lib.Seq.{drop-cons}
-use Rattle.lines.specs.Text.{eventLine, eventLines, wrote, Wrote}
-use Rattle.lines.proofs.Laws.Text.{wrote-on, none-wrote, decimal-most}
-
--- `rest`, written at `next` into the buffer as it is, is what is left of `text`, written at `at` into the buffer as it was
-pub record Left (at : ℕ) (text before : List ℕ) (next : ℕ) (rest present : List ℕ) : Type 0 where
-  pub buffer : wrote next rest present ≡ wrote at text before
-  pub behind : next + length rest ≡ at + length text
-
-pub left-start : (at : ℕ) (text xs : List ℕ) → Left at text xs at text xs
-left-start at text xs = record { buffer = refl; behind = refl }
-
-left-turn : (at : ℕ) (text xs : List ℕ) (p : ℕ) (a b rest ys zs : List ℕ) (q : ℕ) → Left at text xs p rest ys → rest ≡ a ++ b → Wrote p a ys zs q
-    → Left at text xs q b zs
-left-turn at text xs p a b rest ys zs q l e w =
-    record {
-      buffer = ap₂ (λ n s. wrote n b s) (w .behind) (w .buffer) ∙ wrote-on p a b ys ∙ ap (λ r. wrote p r ys) (sym e) ∙ l .buffer;
-      behind = let s = length-append a b in let t = ap length e in omega arith;
-    }
-
-left-end : (at : ℕ) (text xs : List ℕ) (p : ℕ) (rest ys : List ℕ) → Left at text xs p rest ys → rest ≡ [] → Wrote at text xs ys p
-left-end at text xs p rest ys l e =
-    record {
-      buffer = none-wrote p ys .buffer ∙ ap (λ r. wrote p r ys) (sym e) ∙ l .buffer;
-      behind = let t = ap length e in let n = l .behind in omega arith;
-    }
+use Rattle.bytes.specs.Buffers.{Wrote}
+use Rattle.bytes.proofs.Laws.Buffers.{Left, left-turn, left-end}
+use Rattle.lines.specs.Text.{eventLine, eventLines}
+use Rattle.lines.proofs.Laws.Text.{decimal-most}
 
 -- the lines from event i on: one more, and none
 lines-from : (events answers : List ℕ) (i : ℕ) → 2 * i + 1 < length events → i < length answers

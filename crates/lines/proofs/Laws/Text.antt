@@ -1,84 +1,16 @@
--- Laws on text written into a buffer.
-use Prim.Native.Nat.{ℕ, zero, suc, _+_, _/_, _%_, _≤_, _<_}
-use mathlib.Core.Path.{_≡_, refl, sym, _∙_, ap, ap₂}
-use mathlib.Core.List.{List, [], _∷_, _++_, append-assoc, append-nil}
-use native.Mathlib.Nat.{suc-add}
+-- Laws on the lines of text.
+use Prim.Native.Nat.{ℕ, suc, _+_, _/_, _%_, _≤_, _<_}
+use mathlib.Core.Path.{refl, ap, ap₂}
+use mathlib.Core.List.{List, [], _∷_, _++_, append-assoc}
 use native.Mathlib.Omega.{arith}
 use lib.Dec.{ltb}
-use lib.ListN.{length, take, drop, getD, set, length-append, drop-of-length-le, take-append-drop}
-use lib.Seq.{drop-nil, take-at, take-all, drop-drop, drop-append-add, paste, paste-suc, sets, sets-eq}
+use lib.ListN.{length, set, length-append}
 use borrow.Author.Tests.{lt-ltb, le-ltb}
 use Rattle.limits.proofs.Laws.Choice.{pick-yes, pick-no, pick-cases}
-use Rattle.lines.specs.Text.{digit, decimal, space, newline, sentWord, acknowledgedWord, recordedWord, refusedWord, eventLine, countsLine, refusedLine, wrote, Wrote}
-
--- text behind text, by the place of the first
-at-front : (a b xs : List ℕ) (n m : ℕ) → length a ≡ n → m ≡ n + length b
-    → take n (a ++ drop n xs) ++ (b ++ drop (n + length b) (a ++ drop n xs)) ≡ (a ++ b) ++ drop m xs
-at-front a b xs n m e q =
-    ap₂ (λ front back. front ++ (b ++ back)) (take-at a (drop n xs) n e)
-    (ap (λ k. drop k (a ++ drop n xs)) {x = n + length b} {y = length a + length b} (omega arith)
-    ∙ drop-append-add a (drop n xs) (length b)
-    ∙ drop-drop (length b) n xs
-    ∙ ap (λ k. drop k xs) (sym q))
-    ∙ sym (append-assoc a b (drop m xs))
-
-past-end : (a b : List ℕ) (n m : ℕ) → length a ≤ n
-    → take n (a ++ drop n []) ++ (b ++ drop (n + length b) (a ++ drop n [])) ≡ (a ++ b) ++ drop m []
-past-end a b n m h =
-    rw (drop-nil n, append-nil a, take-all n a h, drop-of-length-le a {i = n + length b} (omega arith), drop-nil m)
-    (sym (append-assoc a b []))
-
-pub wrote-on : (at : ℕ) (a b xs : List ℕ) → wrote (at + length a) b (wrote at a xs) ≡ wrote at (a ++ b) xs
-unfolding wrote
-wrote-on zero a b xs = at-front a b xs (0 + length a) (0 + length (a ++ b)) (omega arith) (let l = length-append a b in omega arith)
-wrote-on (suc at) a b [] = past-end a b (suc at + length a) (suc at + length (a ++ b)) (omega arith)
-wrote-on (suc at) a b (x ∷ xs) = simp suc-add (ap (x ∷_) (wrote-on at a b xs))
-
-pub both-wrote : (at : ℕ) (a b xs ys zs : List ℕ) (p q : ℕ) → Wrote at a xs ys p → Wrote p b ys zs q → Wrote at (a ++ b) xs zs q
-both-wrote at a b xs ys zs p q u v =
-    record {
-      buffer = v .buffer ∙ ap₂ (λ n l. wrote n b l) (u .behind) (u .buffer) ∙ wrote-on at a b xs;
-      behind = let l = length-append a b in omega arith;
-    }
-
-pub none-wrote : (at : ℕ) (xs : List ℕ) → Wrote at [] xs xs at
-unfolding wrote
-none-wrote at xs =
-    record {
-      buffer = sym (ap (λ k. take at xs ++ drop k xs) {x = at + 0} {y = at} (omega arith) ∙ take-append-drop at xs);
-      behind = omega arith;
-    }
-
--- a loop that copies: a turn, and its end
-pub word-turn : (b : List ℕ) (at : ℕ) (s ys : List ℕ) (i : ℕ) → ys ≡ paste b at s i → at + length s ≤ length b → i < length s
-    → set ys (at + i) (getD s i 0) ≡ paste b at s (i + 1)
-word-turn b at s ys i e h k =
-    ap (λ l. set l (at + i) (getD s i 0)) e ∙ paste-suc b at s i 0 (omega arith) k ∙ ap (paste b at s) {x = suc i} {y = i + 1} (omega arith)
-
-pub word-done : (b : List ℕ) (at : ℕ) (s ys : List ℕ) (i : ℕ) → ys ≡ paste b at s i → i ≡ length s → Wrote at s b ys (at + i)
-unfolding wrote
-word-done b at s ys i e q =
-    record {
-      buffer =
-          e
-          ∙ append-assoc (take at b) (take i s) (drop (at + i) b)
-          ∙ ap₂ (λ text n. take at b ++ (text ++ drop (at + n) b)) (take-all i s (omega arith)) q;
-      behind = omega arith;
-    }
-
--- digits stored one by one
-stored : (xs : List ℕ) (at : ℕ) (vs ys text : List ℕ) (p : ℕ) → at + length vs ≤ length xs → ys ≡ sets xs at vs → text ≡ vs
-    → p ≡ at + length vs → Wrote at text xs ys p
-unfolding wrote
-stored xs at vs ys text p h e t q =
-    record {
-      buffer =
-          e
-          ∙ sets-eq vs xs at h
-          ∙ append-assoc (take at xs) vs (drop (at + length vs) xs)
-          ∙ ap (λ l. take at xs ++ (l ++ drop (at + length l) xs)) (sym t);
-      behind = q ∙ ap (λ l. at + length l) (sym t);
-    }
+use Rattle.bytes.specs.Ascii.{digit, space, newline}
+use Rattle.bytes.specs.Buffers.{Wrote}
+use Rattle.bytes.proofs.Laws.Buffers.{stored, both-wrote, same-wrote}
+use Rattle.lines.specs.Text.{decimal, sentWord, acknowledgedWord, recordedWord, refusedWord, eventLine, countsLine, refusedLine}
 
 pub one-digit : (xs : List ℕ) (at n : ℕ) → at + 3 ≤ length xs → n < 10 → Wrote at (decimal n) xs (set xs at (48 + n)) (at + 1)
 unfolding decimal
@@ -111,9 +43,6 @@ pub field-room : (n at p : ℕ) (text xs ys : List ℕ) → Wrote at (decimal n 
 field-room n at p text xs ys w = let l = length-append (decimal n) text in let m = decimal-most n in omega arith
 
 -- each line by its parts
-pub same-wrote : (at : ℕ) (a b xs ys : List ℕ) (p : ℕ) → a ≡ b → Wrote at a xs ys p → Wrote at b xs ys p
-same-wrote at a b xs ys p e w = rw e at w
-
 pub event-wrote : (kind argument answer at p q r : ℕ) (xs ys zs us : List ℕ) → Wrote at (decimal kind ++ space) xs ys p
     → Wrote p (decimal argument ++ space) ys zs q → Wrote q (decimal answer ++ newline) zs us r → Wrote at (eventLine kind argument answer) xs us r
 unfolding eventLine

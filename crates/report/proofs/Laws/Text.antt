@@ -4,8 +4,9 @@ use mathlib.Core.Path.{_≡_, refl, ap}
 use mathlib.Core.List.{List, [], _∷_, _++_}
 use native.Mathlib.Omega.{arith}
 use lib.ListN.{length, length-append}
-use Rattle.lines.specs.Text.{eventLine, eventLines, countsLine, Wrote}
-use Rattle.lines.proofs.Laws.Text.{both-wrote, same-wrote}
+use Rattle.bytes.specs.Buffers.{Wrote}
+use Rattle.bytes.proofs.Laws.Buffers.{both-wrote, same-wrote}
+use Rattle.lines.specs.Text.{eventLine, eventLines, countsLine}
 use Rattle.lines.proofs.Laws.Lines.{line-most}
 
 -- answers behind those of the events are not read

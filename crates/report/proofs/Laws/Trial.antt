@@ -18,13 +18,15 @@ use Rattle.limits.proofs.Laws.Lists.{length-tab}
 use Rattle.limits.proofs.Laws.Promise.{none-no, done-of, answers-done, answers-refused}
 use Rattle.unbounded.specs.Ends.{Ends}
 use Rattle.lines.specs.Input.{rowCount, eventStart, mostInput, readable, limitsOf, supplyOf, cellAt, eventBytes}
-use Rattle.lines.specs.Text.{eventLines, countsLine, refusedLine, wrote, Wrote}
+use Rattle.bytes.specs.Buffers.{Wrote, Writing, writing}
+use Rattle.bytes.proofs.Laws.Buffers.{wrote-front}
+use Rattle.lines.specs.Text.{eventLines, countsLine, refusedLine}
 use Rattle.lines.proofs.Laws.Input.{supply-front}
 use Rattle.ride.specs.declared.Outcome.{Outcome}
 use Rattle.ride.specs.Ride.{rideQuestions, endsOf, answersOf, Riding, riding, Rode}
 use Rattle.ride.proofs.Laws.Bounds.{Bounded, bounded, answer-count}
-use Rattle.report.specs.declared.Reported.{Reported}
-use Rattle.report.specs.Report.{outputLength, noAnswers, trialQuestions, trialEnds, trialAnswers, rideText, textOf, Room, Printed, outputQuestions, Reports}
+use Rattle.bytes.specs.declared.Written.{Written}
+use Rattle.report.specs.Report.{outputLength, noAnswers, trialQuestions, trialEnds, trialAnswers, rideText, textOf, Room, outputQuestions, Reports}
 use Rattle.report.proofs.Laws.Text.{lines-front}
 
 -- an input that 29 passes
@@ -150,23 +152,21 @@ module _ (input : List ℕ) (e : readable input ≡ true) (asked : Limits) (byte
 -- question 28, passed and answered no
 pub reported : (input before after : List ℕ) (n : ℕ) → outputLength ≤ length before → Wrote 0 (textOf input) before after n
     → Reports input before after (record { answer = Done; count = n })
-unfolding wrote
 reported input before after n h w =
     let count : n ≡ length (textOf input) = (let b = w .behind in omega arith) in
-    let front : 0 + length (textOf input) ≡ length (textOf input) = omega arith in
     answers-done (outputQuestions before) Done _ _ _ (sym (pick-yes _ _ _ _ (le-leb outputLength (length before) h) refl)) refl
-    (λ i. record { count = count i; buffer = (w .buffer ∙ ap (λ k. textOf input ++ drop k before) front) i })
+    (ap₂ writing count (w .buffer ∙ wrote-front (textOf input) before))
 
 pub not-reported : (input before : List ℕ) → length before < outputLength → Reports input before before (record { answer = ShortBuffer; count = 0 })
 not-reported input before h =
     answers-refused (outputQuestions before) ShortBuffer _ _ _ (sym (pick-no _ _ _ _ (lt-leb outputLength (length before) h) refl)) refl refl
 
 -- what a caller may read of its output
-pub count-fits : (input before after : List ℕ) (r : Reported) → Reports input before after r → r .count ≤ length after
+pub count-fits : (input before after : List ℕ) (r : Written) → Reports input before after r → r .count ≤ length after
 count-fits input before after r h =
     test (eqb (firstNo (outputQuestions before)) 0)
     (λ z. let s = h .result ∙ pick-yes _ _ _ _ z refl in
-    let n : r .count ≡ length (textOf input) = ap (λ (x : Printed). x .count) s in
-    let l : length after ≡ length (textOf input ++ drop (length (textOf input)) before) = ap (λ (x : Printed). length (x .buffer)) s in
+    let n : r .count ≡ length (textOf input) = ap (λ (x : Writing). x .count) s in
+    let l : length after ≡ length (textOf input ++ drop (length (textOf input)) before) = ap (λ (x : Writing). length (x .buffer)) s in
     let a = length-append (textOf input) (drop (length (textOf input)) before) in omega arith)
-    (λ z. let n : r .count ≡ 0 = ap (λ (x : Printed). x .count) (h .result ∙ pick-no _ _ _ _ z refl) in omega arith)
+    (λ z. let n : r .count ≡ 0 = ap (λ (x : Writing). x .count) (h .result ∙ pick-no _ _ _ _ z refl) in omega arith)

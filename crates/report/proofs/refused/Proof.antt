@@ -2,7 +2,7 @@ use borrow.Author.Needs.{needs}
 use Rattle.report.proofs.refused.Statement.{statement}
 use Rattle.report.proofs.refused.Tie as tie
 use Rattle.lines.specs.Text.{refusedLine}
-use Rattle.lines.proofs.Laws.Text.{same-wrote}
+use Rattle.bytes.proofs.Laws.Buffers.{same-wrote}
 use mathlib.Core.Path.{ap}
 
 number-requires : tie.Need-number-requires

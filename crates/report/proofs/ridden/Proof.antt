@@ -6,7 +6,7 @@ use Rattle.report.proofs.Laws.Trial.{is-readable, front-length, ride-re
 use mathlib.Core.Path.{sym, ap}
 use Rattle.limits.specs.Answer.{numberOf}
 use Rattle.limits.proofs.Laws.Promise.{not-done}
-use Rattle.lines.proofs.Laws.Text.{same-wrote}
+use Rattle.bytes.proofs.Laws.Buffers.{same-wrote}
 
 limits-of-requires : tie.Need-limits-of-requires
 limits-of-requires c κs = search needs

@@ -2,7 +2,7 @@ use borrow.Author.Needs.{needs}
 use Rattle.report.proofs.text.Statement.{statement}
 use Rattle.report.proofs.text.Tie as tie
 use mathlib.Core.Path.{sym, _∙_}
-use Rattle.lines.proofs.Laws.Text.{same-wrote}
+use Rattle.bytes.proofs.Laws.Buffers.{same-wrote}
 use Rattle.report.proofs.Laws.Trial.{unreadable}
 
 readable-requires : tie.Need-readable-requires

@@ -6,7 +6,8 @@ use Prim.Native.Nat.{_+_, _-_, _*_, _≤_}
 use mathlib.Core.Path.{_≡_, refl, _∙_}
 use lib.ListN.{length, drop}
 use Rattle.lines.specs.Text.{eventLines}
-use Rattle.lines.proofs.Laws.Lines.{Left, left-start, line-room, lines-turn, lines-done}
+use Rattle.bytes.proofs.Laws.Buffers.{Left, left-start}
+use Rattle.lines.proofs.Laws.Lines.{line-room, lines-turn, lines-done}
 
 abbrev Inv-loop : tie.InvT-loop
 Inv-loop buffer₀ at events answers count next₀ i₀ buffer next i = (i ≤ count) × (length buffer ≡ length buffer₀) × (next ≤ at + 12 * i) × Left at (eventLines events answers) buffer₀ next (eventLines (drop (2 * i) events) (drop i answers)) buffer

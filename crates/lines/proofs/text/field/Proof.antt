@@ -2,7 +2,8 @@ use native.Mathlib.Omega.{arith}
 use borrow.Author.Needs.{needs}
 use Rattle.lines.proofs.text.field.Statement.{statement}
 use Rattle.lines.proofs.text.field.Tie as tie
-use Rattle.lines.proofs.Laws.Text.{both-wrote, decimal-most}
+use Rattle.bytes.proofs.Laws.Buffers.{both-wrote}
+use Rattle.lines.proofs.Laws.Text.{decimal-most}
 
 number-requires : tie.Need-number-requires
 number-requires c κs = search needs

@@ -1,12 +1,12 @@
 use borrow.Author.Needs.{needs}
 use native.Mathlib.Omega.{arith}
-use Rattle.lines.proofs.text.word.Statement.{statement}
-use Rattle.lines.proofs.text.word.Tie as tie
+use Rattle.bytes.proofs.word.Statement.{statement}
+use Rattle.bytes.proofs.word.Tie as tie
 use Prim.Native.Nat.{_-_, _≤_}
 use mathlib.Core.Path.{_≡_, refl}
 use lib.ListN.{length, length-set}
 use lib.Seq.{paste, paste-zero}
-use Rattle.lines.proofs.Laws.Text.{word-turn, word-done}
+use Rattle.bytes.proofs.Laws.Buffers.{word-turn, word-done}
 
 abbrev Inv-loop : tie.InvT-loop
 Inv-loop buffer₀ at text i₀ buffer i = (i ≤ length text) × (length buffer ≡ length buffer₀) × (buffer ≡ paste buffer₀ at text i)
