@@ -37,6 +37,9 @@ static const struct matlink_text matlink_texts[] = {
     {MATLINK_BAD_FRAME_SPAN, "the reply in the frame covers more rows than its window"},
     {MATLINK_SHORT_BUFFER, "the buffer is shorter than the frame"},
     {MATLINK_BAD_INPUT_LENGTH, "the input ends before its rows do, or is longer than 40,960 bytes"},
+    {MATLINK_BAD_RECORD_LENGTH, "the record ends inside a row, or has more than 100,000 rows"},
+    {MATLINK_NO_SUCH_PAGE, "the record has no row for this page (pages count from 0)"},
+    {MATLINK_SHORT_PAGE_BUFFER, "the buffer is shorter than the page"},
 };
 
 const char *matlink_answer_text(uint8_t answer) {

@@ -49,6 +49,32 @@ unsafe extern "C" {
         record_count: usize,
         counts: *mut usize,
     ) -> u8;
+
+    fn matlink_page(
+        record: *const u16,
+        record_count: usize,
+        page: u64,
+        buffer: *mut u8,
+        buffer_count: usize,
+        count: *mut u64,
+    ) -> u8;
+}
+
+/// Bytes of the longest page, 60 lines of 23.
+const PAGE_BYTES: usize = 60 * 23;
+
+/// A page of a record, or the number of the refusal.
+pub fn page(record: &[u16], page: u64) -> Result<String, u8> {
+    let mut buffer = [0; PAGE_BYTES];
+    let mut count = 0;
+    // SAFETY: record and buffer are slices with their own counts, and nothing overlaps.
+    let answer =
+        unsafe { matlink_page(record.as_ptr(), record.len(), page, buffer.as_mut_ptr(), buffer.len(), &mut count) };
+    if answer == 0 {
+        Ok(String::from_utf8_lossy(&buffer[..count as usize]).into_owned())
+    } else {
+        Err(answer)
+    }
 }
 
 /// The members of `struct matlink`. The single numbers stand in `head`, in their order.

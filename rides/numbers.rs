@@ -2,7 +2,7 @@
 //! with docs/RIDES.md.
 
 /// By number: the answer's name in crates/limits, and the words.
-pub const NUMBERS: [(&str, &str); 30] = [
+pub const NUMBERS: [(&str, &str); 33] = [
     ("Done", "the event was carried out"),
     ("BadWindow", "the window is not 1 to 32"),
     ("BadTimes", "the data life, the reply life or the reply wait is not 1 to 250"),
@@ -33,6 +33,9 @@ pub const NUMBERS: [(&str, &str); 30] = [
     ("BadFrameSpan", "the reply in the frame covers more rows than its window"),
     ("ShortBuffer", "the buffer is shorter than the frame"),
     ("BadInputLength", "the input ends before its rows do, or is longer than 40,960 bytes"),
+    ("BadRecordLength", "the record ends inside a row, or has more than 100,000 rows"),
+    ("NoSuchPage", "the record has no row for this page (pages count from 0)"),
+    ("ShortPageBuffer", "the buffer is shorter than the page"),
 ];
 
 /// What a number means.

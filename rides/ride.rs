@@ -40,6 +40,7 @@ struct Asked<'a> {
     brief: bool,
     bytes: bool,
     chart: Option<&'a str>,
+    page: Option<u64>,
     trial: Option<&'a str>,
     files: Vec<&'a str>,
 }
@@ -86,10 +87,11 @@ fn by_library(asked: &Asked, file: &str, ride: &Ride) -> Result<String, Failure>
         };
         std::fs::write(path, drawn).map_err(|e| no_run(format!("{path}: {e}")))?;
     }
-    Ok(match run {
-        Ok(run) if asked.brief => brief::table(&ride.events, &brief::Answers::of(&run)),
-        Ok(run) => story::told(&run),
-        Err(answer) => brief::refused(answer),
+    Ok(match (run, asked.page) {
+        (Ok(run), Some(page)) => link::page(run.recorded(), page).unwrap_or_else(brief::refused),
+        (Ok(run), None) if asked.brief => brief::table(&ride.events, &brief::Answers::of(&run)),
+        (Ok(run), None) => story::told(&run),
+        (Err(answer), _) => brief::refused(answer),
     })
 }
 
@@ -145,6 +147,10 @@ fn asked<'a>(words: &[&'a str]) -> Result<Asked<'a>, String> {
                 Some(path) if path.ends_with(".svg") => asked.chart = Some(path),
                 _ => return Err("--chart is followed by a file whose name ends with .svg".to_string()),
             },
+            "--page" => {
+                let number = words.next().and_then(|word| word.parse().ok());
+                asked.page = Some(number.ok_or("--page is followed by the number of a page, counted from 0")?);
+            }
             "--trial" => asked.trial = Some(words.next().ok_or("--trial is followed by a program")?),
             option if option.starts_with('-') => return Err(format!("there is no option {option}")),
             file => asked.files.push(file),
@@ -155,6 +161,7 @@ fn asked<'a>(words: &[&'a str]) -> Result<Asked<'a>, String> {
     match asked.files.len() {
         0 => Err("no ride is named".to_string()),
         2.. if single => Err("--chart and --bytes take one ride".to_string()),
+        _ if asked.page.is_some() && (others > 0 || asked.brief) => Err("--page goes with no other option".to_string()),
         _ if others > 1 => Err("--chart, --trial and --bytes exclude each other".to_string()),
         _ => Ok(asked),
     }

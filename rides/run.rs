@@ -98,6 +98,11 @@ impl Run {
         self.counts
     }
 
+    /// The rows recorded.
+    pub fn recorded(&self) -> &[u16] {
+        &self.record[..self.counts[2] * CELLS]
+    }
+
     fn put(&mut self, event: &Event) -> Result<(), String> {
         let (before, counts) = (self.link.clone(), self.counts);
         let [sent, _, recorded] = counts.map(|count| count * CELLS);

@@ -11,13 +11,15 @@ static struct matlink now, before;
 static struct matlink_counts counts;
 static struct matlink_frame frame, read_back, kept;
 static uint16_t rows[2 * MATLINK_ROW_CELLS], record[2 * MATLINK_ROW_CELLS], record_before[2 * MATLINK_ROW_CELLS];
-static uint8_t answers[8], bytes[40], bytes_before[40];
+static uint8_t answers[8], bytes[40], bytes_before[40], page_bytes[61 * MATLINK_LINE_BYTES];
+static uint16_t page_cells[61 * MATLINK_ROW_CELLS];
 static uint64_t written;
 
 /* What is only read is lent as const. */
 static const uint16_t *const supply = rows;
 static const struct matlink_frame *const lent_frame = &frame;
 static const uint8_t *const lent_bytes = bytes;
+static const uint16_t *const lent_cells = page_cells;
 
 /* What a single event or a ride is lent, in cells. */
 static size_t supply_lent = MATLINK_ROW_CELLS, record_lent = 2 * MATLINK_ROW_CELLS;
@@ -328,6 +330,39 @@ static void read_order(void) {
     }
 }
 
+static void page(const char *what, size_t cells, uint64_t number, size_t buffer_count) {
+    uint8_t answer;
+    size_t i, behind = 0;
+    memset(page_bytes, '.', sizeof page_bytes);
+    written = 99;
+    answer = matlink_page(lent_cells, cells, number, page_bytes, buffer_count, &written);
+    for (i = (size_t)written; i < sizeof page_bytes; i++) behind += page_bytes[i] == '.';
+    printf("page, %s: %u, count %u, as it was behind %u\n", what, answer, (unsigned)written, (unsigned)behind);
+    /* the first line and the last one */
+    if (answer == MATLINK_DONE) {
+        fwrite(page_bytes, 1, MATLINK_LINE_BYTES, stdout);
+        fwrite(page_bytes + written - MATLINK_LINE_BYTES, 1, MATLINK_LINE_BYTES, stdout);
+    }
+}
+
+static void pages(void) {
+    const size_t whole = MATLINK_PAGE_ROWS * MATLINK_LINE_BYTES, all = sizeof page_cells / sizeof page_cells[0];
+    size_t i;
+    for (i = 0; i < all; i++) page_cells[i] = (uint16_t)(i * 273 % (MATLINK_CELL_MOST + 1));
+    page("of 60 rows", all, 0, whole);
+    page("of 1 row", all, 1, MATLINK_LINE_BYTES);
+    page("more room", all, 1, whole);
+    /* from here on one thing more is wrong each time, and it is asked before the others */
+    page("22 bytes of room", all, 1, MATLINK_LINE_BYTES - 1);
+    page_cells[all - 1] = MATLINK_CELL_MOST + 1;
+    page("cell 4096", all, 1, MATLINK_LINE_BYTES - 1);
+    page("the page before it", all, 0, whole);
+    page("page 2", all, 2, 0);
+    page("60 times it is 44 modulo 2 to the 64", all, UINT64_MAX / 60 + 1, whole);
+    page("no row", 0, 0, whole);
+    page("part of a row", all - 1, 2, 0);
+}
+
 static void texts(void) {
     unsigned n;
     for (n = 0; n < 256; n++) printf("%u %s\n", n, matlink_answer_text((uint8_t)n));
@@ -351,5 +386,6 @@ int main(int words, char **word) {
     data_frames();
     reply_frames();
     read_order();
+    pages();
     return 0;
 }

@@ -1,6 +1,6 @@
 #!/usr/bin/env bash
-# The rides of rides/ print what stands in their .out and .brief files and draw what stands in docs/charts, faults in a ride are
-# reported by line, and docs/RIDES.md has the tables that the program goes by.
+# The rides of rides/ print what stands in their .out, .brief and .page files and draw what stands in docs/charts, faults in a ride
+# are reported by line, and docs/RIDES.md has the tables that the program goes by.
 set -euo pipefail
 shopt -s lastpipe # so that `failed` is set where `prints` ends a pipeline
 here=target/rides
@@ -28,8 +28,9 @@ for file in rides/*.ride; do
     cmp "docs/charts/$name.svg" "$here/chart.svg" || fails "$file: draws something else than docs/charts/$name.svg"
     same "rides/$name.brief" "$here/ride" --brief "$file"
     same "rides/$name.brief" "$here/ride" --trial target/bin/trial "$file"
+    [ ! -e "rides/$name.page" ] || same "rides/$name.page" "$here/ride" --page 0 "$file"
 done
-for file in rides/*.out rides/*.brief docs/charts/*.svg; do
+for file in rides/*.out rides/*.brief rides/*.page docs/charts/*.svg; do
     name=$(basename "$file")
     [ -e "rides/${name%.*}.ride" ] || fails "$file: there is no such ride"
 done
@@ -157,12 +158,32 @@ asks 0 '' env PATH="$fresh/bin:$PATH" "$fresh/rides/ride" rides/quiet.ride
 wrong=$here/wrong
 mkdir -p "$wrong"
 printf '%s\n' '#include <stdint.h>' 'uint8_t matlink_lent_open(uint16_t *head) { head[0] = 1; return 0; }' \
-    'uint8_t matlink_lent_step(uint16_t *head) { return (uint8_t)(head[0] - 1); }' >"$wrong/wrong.c"
+    'uint8_t matlink_lent_step(uint16_t *head) { return (uint8_t)(head[0] - 1); }' 'uint8_t matlink_page(void) { return 0; }' >"$wrong/wrong.c"
 cc -c -o "$wrong/wrong.o" "$wrong/wrong.c"
 ar rcs "$wrong/libexports.a" "$wrong/wrong.o"
 rustc --edition 2021 -L native="$wrong" -o "$wrong/ride" rides/ride.rs
 asks 2 'rides/quiet.ride: line 9: the link shows 0 data messages and 0 replies, and by the events there are 1 and 0' \
     "$wrong/ride" rides/quiet.ride
+
+# Pages: rows 0 to 60 are recorded, the last one with other cells; row 61 is in the air.
+{
+    printf '%srows 60\nrow 0 409 410 819 820 1229 1639 2048 2458 2867 2868 3277 3686 3687 4094 4095\nrow 0\n' "$limits"
+    for ((n = 0; n < 61; n++)); do printf 'send\ndata 0 arrives\nreply\nreply 0 arrives\n'; done
+    echo send
+} >"$here/x.ride"
+for ((n = 0; n < 60; n++)); do printf '%5d 0000000000000000\n' "$n"; done >"$here/expected"
+same "$here/expected" "$here/ride" --page 0 "$here/x.ride"
+echo '   60 0011234566788999' >"$here/expected"
+same "$here/expected" "$here/ride" --page 1 "$here/x.ride"
+echo 'refused 31  the record has no row for this page (pages count from 0)' >"$here/expected"
+for n in 2 307445734561825861 18446744073709551615; do same "$here/expected" "$here/ride" --page "$n" "$here/x.ride"; done
+same rides/short-wait.brief "$here/ride" --page 0 rides/short-wait.ride
+for words in '--page -1' '--page 18446744073709551616' '--page'; do
+    asks 1 "--page is followed by the number of a page, counted from 0$help" "$here/ride" "$here/x.ride" $words
+done
+for words in --brief --bytes '--trial target/bin/trial' "--chart $here/chart.svg"; do
+    asks 1 "--page goes with no other option$help" "$here/ride" --page 0 $words "$here/x.ride"
+done
 
 # The bytes of the paper's example
 printf '%srow 5\nsend\ndata 0 arrives\nreply\nreply 0 arrives\n' "$limits" >"$here/x.ride"

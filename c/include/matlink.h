@@ -1,6 +1,7 @@
 /* The mat link for C. Each call lends the members of a struct to a function of the static library libexports.a that is proved
- * to meet its contract for every input. The calls work in place: there is nothing to allocate and nothing to close, and what
- * is kept between two calls stands in the struct. matlink_text.c, which gives answers in words, is compiled with the program.
+ * to meet its contract for every input; matlink_page is such a function itself. The calls work in place: there is nothing to
+ * allocate and nothing to close, and what is kept between two calls stands in the struct. matlink_text.c, which gives answers in
+ * words, is compiled with the program.
  *
  * Slices. A slice is two arguments, a pointer to its first element and the count of its elements. No pointer is NULL, and each
  * is aligned for its type, also where the count is 0.
@@ -10,9 +11,10 @@
  * that a call writes, done or refused; everything else is as it was.
  *
  * Overlap. What a call may write (link, record, answers, counts, out, buffer, count) overlaps nothing else that is handed to
- * the same call. What it only reads (supply, events, frame) may overlap one another. The functions of this header copy the ten
- * numbers of a link, the five numbers of a frame, the counts and `count` to and from variables of their own, and write them
- * back after the proved function has returned, some of them unchanged; arrays and slices are lent as they are.
+ * the same call. What it only reads (supply, events, frame, the record of matlink_page) may overlap one another. The functions
+ * of this header copy the ten numbers of a link, the five numbers of a frame, the counts and `count` to and from variables of
+ * their own, and write them back after the proved function has returned, some of them unchanged; arrays and slices are lent as
+ * they are.
  *
  * At the same time. A call uses the memory that it is handed and its stack, and no other. So calls may interrupt each other if
  * neither may write what the other is handed.
@@ -44,6 +46,9 @@ extern "C" {
 #define MATLINK_TICK_MOST 255         /* ticks of one event */
 #define MATLINK_DATA_FRAME_BYTES 36   /* 1, life, w, number, sixteen cells with the low byte first */
 #define MATLINK_REPLY_FRAME_BYTES 5   /* 2, life, w, first, last */
+#define MATLINK_PAGE_ROWS 60          /* rows of a page; the last one of a record may have fewer */
+#define MATLINK_LINE_BYTES 23         /* bytes of a page's line: 5 columns, a space, sixteen digits, a line feed */
+#define MATLINK_PAGED_ROWS_MOST 100000 /* rows of a record that has pages */
 
 /* The kinds of events, with their arguments. Rows and messages are counted from the oldest, which is 0; when a message leaves a
  * table, those behind it move up. */
@@ -78,7 +83,7 @@ enum matlink_answer {
     MATLINK_BAD_ARGUMENT = 9,          /* is the argument of a send or reply 0, and that of a tick not 0? */
     MATLINK_WINDOW_FULL = 10,          /* send: are fewer than w rows outstanding? */
     MATLINK_NO_ROW_LEFT = 11,          /* send: is a row left in the supply? */
-    MATLINK_ILLEGAL_CELL = 12,         /* send, data frame: is every cell of the row at most 4095? */
+    MATLINK_ILLEGAL_CELL = 12,         /* send, data frame, page: is every cell of the row or of the page at most 4095? */
     MATLINK_DATA_TABLE_FULL = 13,      /* send, resend: are fewer than 32 data messages in the air? */
     MATLINK_NOT_OUTSTANDING = 14,      /* resend: are more than k rows outstanding? */
     MATLINK_ALREADY_ACKNOWLEDGED = 15, /* resend: is the row not acknowledged? */
@@ -96,6 +101,9 @@ enum matlink_answer {
     MATLINK_BAD_FRAME_SPAN = 27,       /* reply frame: does it cover at most w rows? */
     MATLINK_SHORT_BUFFER = 28,         /* frame that is written: is the buffer long enough? */
     MATLINK_BAD_INPUT_LENGTH = 29,     /* the trial program alone: is the length of its input right? */
+    MATLINK_BAD_RECORD_LENGTH = 30,    /* page: is the record whole rows, and at most 100,000? */
+    MATLINK_NO_SUCH_PAGE = 31,         /* page: has the record a row for it? */
+    MATLINK_SHORT_PAGE_BUFFER = 32,    /* page: has the buffer 23 bytes for each row of it? */
 };
 
 /* The text of an answer, in the words of docs/RIDES.md, and "unknown answer" for a number that is none. It is constant and
@@ -158,6 +166,18 @@ uint8_t matlink_lent_ride(uint32_t window, uint32_t data_life, uint32_t reply_li
 uint8_t matlink_lent_read_frame(const uint8_t *frame, size_t frame_count, uint16_t *head, uint16_t *cells);
 uint8_t matlink_lent_write_frame(const uint16_t *head, const uint16_t *cells, uint8_t *buffer, size_t buffer_count,
                                  size_t *count);
+
+/* Writes a page of a record as text to the front of the buffer: up to 60 rows, from row 60 times `page` on. Pages count from 0.
+ * A line is 23 bytes of ASCII: the row's number, counted from 0, at the right of 5 columns, with spaces in front; a space; a
+ * digit for each cell, its shade, which is the cell times 10 divided by 4096, rounded down; a line feed. No 0 ends the text.
+ * Asked in this order: the record is whole rows, and at most 100,000 (30); the page has a row (31), whatever number it is; the
+ * cells of the page, and no others (12); the length of the buffer (32), 23 bytes for each row of this page.
+ * Done: `count` gets the count of bytes written, 23 for each row, and the bytes behind them are as they were.
+ * Refused: the buffer is as it was, and `count` gets 0, whichever question it was.
+ * What a call takes goes with the rows of the page, however long the record is.
+ * Stack: 48 bytes. */
+uint8_t matlink_page(const uint16_t *record, size_t record_count, uint64_t page, uint8_t *buffer, size_t buffer_count,
+                     uint64_t *count);
 
 #ifdef __cplusplus
 }

@@ -1,8 +1,8 @@
-//! A second implementation of the mat link, written from the paper (document 01) alone.
+//! A second implementation of the mat link, written from the papers (documents 01 and 02) alone.
 //!
 //! It is there to be compared: with the unbounded ends here, and with the proved implementation on the same input. The protocol
-//! is the block acknowledgment protocol of source document 001, section 4.2, in whole ticks. "Question n" is the paper's
-//! question with the number n; "row" and "reply" are its words for the data message's content and the acknowledgment.
+//! is the block acknowledgment protocol of source document 001, section 4.2, in whole ticks. "Question n" is the papers'
+//! question with the number n; "row" and "reply" are their words for the data message's content and the acknowledgment.
 
 #![warn(missing_docs)]
 
@@ -22,6 +22,9 @@ pub mod links;
 pub mod matlink;
 pub mod members;
 pub mod met;
+pub mod page;
+pub mod page_checks;
+pub mod page_lists;
 #[cfg(feature = "proved")]
 pub mod proved;
 pub mod random;

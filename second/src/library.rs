@@ -55,6 +55,12 @@ pub trait FrameLibrary: Sync {
     fn write_frame(&self, frame: &MatlinkFrame, buffer: &mut [u8], count: &mut usize) -> u8;
 }
 
+/// The call for pages. It gives the number of its answer and the count of bytes.
+pub trait PageLibrary: Sync {
+    /// Writes a page of a record.
+    fn write_page(&self, record: &[u16], page: u64, buffer: &mut [u8], count: &mut u64) -> u8;
+}
+
 /// The three counts as the library writes them.
 pub fn rises(counts: Counts) -> Rises {
     [counts.sent, counts.acknowledged, counts.recorded]

@@ -77,6 +77,12 @@ pub enum Refusal {
     FrameBufferShort = 28,
     /// Trial: the input is shorter than it says, or too long.
     InputLength = 29,
+    /// Page: the record does not divide into rows, or has more than 100,000.
+    PageRecord = 30,
+    /// Page: the record has no row of it.
+    NoPage = 31,
+    /// Page: no space to write it.
+    PageBufferShort = 32,
 }
 
 /// Puts a question. With `?` behind it the first "no" ends the call, which is the paper's order.

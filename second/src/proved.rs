@@ -1,9 +1,9 @@
 //! The proved static library (feature `proved`). An array is passed as a pointer, a slice as a pointer and a length.
 //!
-//! The functions of the C header are `static inline` and not in the library, so each call here lends as they do. What it lends
-//! it takes back whatever the answer is, so that a refused call that wrote something is found out.
+//! The functions of the C header but matlink_page are `static inline` and not in the library, so each call here lends as they do.
+//! What it lends it takes back whatever the answer is, so that a refused call that wrote something is found out.
 
-use crate::library::{Asked, FrameLibrary, Lent, Library, Rises};
+use crate::library::{Asked, FrameLibrary, Lent, Library, PageLibrary, Rises};
 use crate::matlink::{Matlink, MatlinkFrame};
 
 #[link(name = "exports", kind = "static")]
@@ -90,6 +90,15 @@ unsafe extern "C" {
         buffer: *mut u8,
         buffer_length: usize,
         count: *mut usize,
+    ) -> u8;
+
+    fn matlink_page(
+        record: *const u16,
+        record_count: usize,
+        page: u64,
+        buffer: *mut u8,
+        buffer_count: usize,
+        count: *mut u64,
     ) -> u8;
 }
 
@@ -213,5 +222,11 @@ impl FrameLibrary for Proved {
     fn write_frame(&self, frame: &MatlinkFrame, buffer: &mut [u8], count: &mut usize) -> u8 {
         let head = frame.head();
         unsafe { matlink_lent_write_frame(head.as_ptr(), frame.cell.as_ptr(), buffer.as_mut_ptr(), buffer.len(), count) }
+    }
+}
+
+impl PageLibrary for Proved {
+    fn write_page(&self, record: &[u16], page: u64, buffer: &mut [u8], count: &mut u64) -> u8 {
+        unsafe { matlink_page(record.as_ptr(), record.len(), page, buffer.as_mut_ptr(), buffer.len(), count) }
     }
 }

@@ -42,6 +42,17 @@ while IFS=$'\t' read -r n name w events; do
 done <"$out/rides"
 
 echo
+echo '| rows of the record | page | rows of the page | instructions, matlink_page | second | ratio |'
+echo '|---|---|---|---|---|---|'
+for page in '1 0' '60 0' '100000 0' '100000 1666' '100000 1667' '100001 0'; do
+    rows=$("$bench" page $page)
+    p=$(instructions matlink_page "$bench" page $page)
+    s=$(instructions second_page "$bench" page $page)
+    awk -v page="$page" -v r="$rows" -v p="$p" -v s="$s" 'BEGIN {
+        sub(" ", " | ", page); printf "| %s | %d | %d | %d | %.1f |\n", page, r, p, s, p/s }'
+done
+
+echo
 echo '| function | bytes of stack |'
 echo '|---|---|'
 "$steps" stack | sed 's/\(.*\)\t\(.*\)/| \1 | \2 |/'
@@ -57,7 +68,8 @@ echo '| functions | bytes of code | of constants |'
 echo '|---|---|---|'
 for name in open step run; do echo "| matlink_lent_$name | $(code "matlink_lent_$name") |"; done
 echo "| these three together | $(code matlink_lent_open matlink_lent_step matlink_lent_run) |"
-echo "| all six | $(code matlink_lent_{open,step,run,ride,read_frame,write_frame}) |"
+echo "| matlink_page | $(code matlink_page) |"
+echo "| all seven | $(code matlink_lent_{open,step,run,ride,read_frame,write_frame} matlink_page) |"
 
 beside=$out/beside
 cc -std=gnu11 -Wall -Wextra -pedantic -O2 -I c/include -o "$beside" tests/by-hand/beside.c "$library"

@@ -202,6 +202,15 @@ static NOINLINE void whole_write_frame(int measured) {
     answers[1] = call(&reply, bytes, sizeof bytes, &count);
 }
 
+/* A page of 60 rows. */
+static NOINLINE void page(int measured) {
+    static uint16_t rows[MATLINK_PAGE_ROWS * MATLINK_ROW_CELLS];
+    static uint8_t lines[MATLINK_PAGE_ROWS * MATLINK_LINE_BYTES];
+    uint64_t count;
+    CALL(matlink_page);
+    answers[0] = call(rows, sizeof rows / sizeof rows[0], 0, lines, sizeof lines, &count);
+}
+
 static NOINLINE void answer_text(int measured) {
     CALL(matlink_answer_text);
     text = call(255);
@@ -229,6 +238,7 @@ static const struct measure measures[] = {
     {"matlink_lent_read_frame", lent_read_frame, 2},
     {"matlink_write_frame", whole_write_frame, 2},
     {"matlink_lent_write_frame", lent_write_frame, 2},
+    {"matlink_page", page, 1},
     {"matlink_answer_text", answer_text, 0},
 };
 

@@ -18,5 +18,6 @@ specs() { for c in "$@"; do find "crates/$c/specs" -name '*.antt'; done; }
 lines 'a ride' $(specs limits unbounded ride)
 lines 'the link and demand 3' crates/events/specs/{State,Rules,View}.antt $(specs lists runs link) $(specs agreement)
 lines 'the parts' $(specs tables air mat pad)
-lines 'frames' $(specs frames)
+lines 'frames' $(specs bytes frames)
+lines 'a page' $(specs bytes page)
 lines 'C' $(specs cframes exports) crates/events/specs/Lent.antt

@@ -7,6 +7,7 @@ ghost use Rattle.exports.specs.Links.{clink, isOn, bit, limitsAt, number
 ghost use Rattle.exports.specs.Calls.{capped, asked, kindOf, countsList, OpenCall, StepCall, RunCall, RideCall};
 
 pub mod cframe;
+pub mod cpage;
 
 use events::Counts;
 use events::moves::Numbers;

@@ -1,7 +1,7 @@
 -- The numbers that the paper gives to the answers: 0 is done, any other number names the question that was answered no.
 use Prim.Native.Nat.{ℕ}
 use Rattle.limits.specs.declared.answer.Answer.{Answer}
-use Rattle.limits.specs.declared.answer.Answer.the-variants.{Done, BadWindow, BadTimes, BadWait, Unsound, OddEvents, PartialRow, ShortAnswers, UnknownKind, BadArgument, WindowFull, NoRowLeft, IllegalCell, DataTableFull, NotOutstanding, AlreadyAcknowledged, TimerRunning, NoMessage, ReplyTableFull, SpanNotOutstanding, NothingReady, RecordFull, UnknownFrame, BadFrameLength, BadFrameWindow, BadFrameNumber, BadFrameLife, BadFrameSpan, ShortBuffer, BadInputLength}
+use Rattle.limits.specs.declared.answer.Answer.the-variants.{Done, BadWindow, BadTimes, BadWait, Unsound, OddEvents, PartialRow, ShortAnswers, UnknownKind, BadArgument, WindowFull, NoRowLeft, IllegalCell, DataTableFull, NotOutstanding, AlreadyAcknowledged, TimerRunning, NoMessage, ReplyTableFull, SpanNotOutstanding, NothingReady, RecordFull, UnknownFrame, BadFrameLength, BadFrameWindow, BadFrameNumber, BadFrameLife, BadFrameSpan, ShortBuffer, BadInputLength, BadRecordLength, NoSuchPage, ShortPageBuffer}
 
 abbrev pub numberOf : Answer → ℕ
 numberOf Done = 0
@@ -34,3 +34,6 @@ numberOf BadFrameLife = 26
 numberOf BadFrameSpan = 27
 numberOf ShortBuffer = 28
 numberOf BadInputLength = 29
+numberOf BadRecordLength = 30
+numberOf NoSuchPage = 31
+numberOf ShortPageBuffer = 32

@@ -33,6 +33,9 @@ pub enum Answer {
     BadFrameSpan,
     ShortBuffer,
     BadInputLength,
+    BadRecordLength,
+    NoSuchPage,
+    ShortPageBuffer,
 }
 
 // The number of an answer, as it is written to an answer buffer or printed.
@@ -70,5 +73,8 @@ pub fn number(answer: Answer) -> u8
         Answer::BadFrameSpan => 27,
         Answer::ShortBuffer => 28,
         Answer::BadInputLength => 29,
+        Answer::BadRecordLength => 30,
+        Answer::NoSuchPage => 31,
+        Answer::ShortPageBuffer => 32,
     }
 }

@@ -1,12 +1,17 @@
 //! Events per second of the proved run and of the run here, and single runs for callgrind to count.
 //!
 //! `bench time` prints a line for each ride: name, window, events, how many are refused, and events per second of both. `bench proved N` and
-//! `bench second N` do ride N once; their work stands in matlink_lent_run and in second_run.
+//! `bench second N` do ride N once; their work stands in matlink_lent_run and in second_run. `bench page ROWS P` writes page P of
+//! a record of so many rows by both; their work stands in matlink_page and in second_page.
 
 use second::built::Link;
-use second::library::{asked, Lent, Library, Rises};
+use second::library::{asked, Lent, Library, PageLibrary, Rises};
+use second::limits::{Refusal, CELLS};
 use second::matlink::Matlink;
+use second::page::page;
+use second::page_lists::legal_cells;
 use second::proved::Proved;
+use second::random::Random;
 use second::rides::{all_rides, Ride};
 use std::hint::black_box;
 use std::time::Instant;
@@ -84,8 +89,30 @@ fn times(rides: &[Ride]) {
     }
 }
 
+/// A name that callgrind finds.
+#[inline(never)]
+#[no_mangle]
+pub fn second_page(record: &[u16], p: u64, buffer: &mut [u8]) -> Result<usize, Refusal> {
+    page(record, p, buffer)
+}
+
+/// Both pages, and how many rows they have.
+fn pages(rows: usize, p: u64) {
+    let record = legal_cells(&mut Random::new(0), rows * CELLS);
+    let (mut proved, mut second) = ([0; 60 * 23], [0; 60 * 23]);
+    let mut count = 0;
+    Proved.write_page(&record, p, &mut proved, &mut count);
+    assert_eq!(second_page(&record, p, &mut second).unwrap_or(0) as u64, count);
+    assert_eq!(proved, second, "both pages are the same");
+    println!("{}", count / 23);
+}
+
 fn main() {
     let words: Vec<String> = std::env::args().skip(1).collect();
+    if let [how, rows, p] = &words[..] {
+        assert_eq!(how, "page");
+        return pages(rows.parse().expect("a count of rows"), p.parse().expect("a page"));
+    }
     let rides = all_rides(LENGTH);
     let ride = words.get(1).map(|n| &rides[n.parse::<usize>().expect("a ride's place")]);
     match (words.first().map(String::as_str), ride) {

@@ -9,6 +9,8 @@ mod lists;
 mod made_up;
 mod members;
 mod mistakes;
+mod page;
+mod page_checks;
 mod program;
 mod shrink;
 mod trial;

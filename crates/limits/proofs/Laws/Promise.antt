@@ -8,7 +8,7 @@ use denote.Enum.Declared.{tagOf}
 use lib.Dec.{eqb}
 use borrow.Author.Tests.{le-leb, lt-leb, eq-eqb}
 use Rattle.limits.specs.declared.answer.Answer.{Answer}
-use Rattle.limits.specs.declared.answer.Answer.the-variants.{Done, BadWindow, BadTimes, BadWait, Unsound, OddEvents, PartialRow, ShortAnswers, UnknownKind, BadArgument, WindowFull, NoRowLeft, IllegalCell, DataTableFull, NotOutstanding, AlreadyAcknowledged, TimerRunning, NoMessage, ReplyTableFull, SpanNotOutstanding, NothingReady, RecordFull, UnknownFrame, BadFrameLength, BadFrameWindow, BadFrameNumber, BadFrameLife, BadFrameSpan, ShortBuffer, BadInputLength}
+use Rattle.limits.specs.declared.answer.Answer.the-variants.{Done, BadWindow, BadTimes, BadWait, Unsound, OddEvents, PartialRow, ShortAnswers, UnknownKind, BadArgument, WindowFull, NoRowLeft, IllegalCell, DataTableFull, NotOutstanding, AlreadyAcknowledged, TimerRunning, NoMessage, ReplyTableFull, SpanNotOutstanding, NothingReady, RecordFull, UnknownFrame, BadFrameLength, BadFrameWindow, BadFrameNumber, BadFrameLife, BadFrameSpan, ShortBuffer, BadInputLength, BadRecordLength, NoSuchPage, ShortPageBuffer}
 use Rattle.limits.specs.Answer.{numberOf}
 use Rattle.limits.specs.Questions.{pick, Question, ask, firstNo, Answers, Called, timeQuestions}
 use Rattle.limits.proofs.answer.Answer.{the-type}
@@ -21,7 +21,7 @@ upFrom a (suc n) = a ∷ upFrom (suc a) n
 
 -- the tags of the answers other than `Done`
 abbrev pub refusals : List ℕ
-refusals = upFrom 1 29
+refusals = upFrom 1 32
 
 -- the else of a `let Answer::Done = answer else`
 pub not-done : (a : Answer) → OneOf refusals (tagOf the-type a) → eqb (numberOf a) 0 ≡ false
@@ -55,6 +55,9 @@ not-done BadFrameLife k = refl
 not-done BadFrameSpan k = refl
 not-done ShortBuffer k = refl
 not-done BadInputLength k = refl
+not-done BadRecordLength k = refl
+not-done NoSuchPage k = refl
+not-done ShortPageBuffer k = refl
 
 module _ {X : Type 0} (qs : List Question) (answer : Answer) (shown done refused : X) (first : numberOf answer ≡ firstNo qs) where
   pub answers-done : numberOf answer ≡ 0 → shown ≡ done → Answers qs answer shown done refused
