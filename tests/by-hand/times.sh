@@ -20,4 +20,4 @@ lines 'the link and demand 3' crates/events/specs/{State,Rules,View}.antt $(spec
 lines 'the parts' $(specs tables air mat pad)
 lines 'frames' $(specs bytes frames)
 lines 'a page' $(specs bytes page)
-lines 'C' $(specs cframes exports) crates/events/specs/Lent.antt
+lines 'C' $(specs cframes clinks exports) crates/events/specs/Lent.antt

@@ -13,17 +13,18 @@ use Rattle.limits.proofs.Laws.Choice.{pick-yes, pick-no, split, test, three, an
 use Rattle.events.specs.declared.Link.{Link}
 use Rattle.events.specs.declared.Progress.{Progress}
 use Rattle.agreement.specs.Calls.{Line, following, Chain}
-use Rattle.exports.specs.Links.{CLink, linkAt, stored}
+use Rattle.clinks.specs.Links.{CLink, linkAt, stored}
 use Rattle.exports.specs.Calls.{capped, asked, Leaves, CCall, CChain}
-use Rattle.exports.proofs.Laws.Links as links
+use Rattle.clinks.proofs.Laws.Links.{stored-back}
+use Rattle.exports.proofs.Laws.Calls.{left-link}
 
 -- A link that is stored gives itself back.
 pub stored-loads : (k : Link) → linkAt (stored k) ≡ k
-stored-loads = links.stored-back
+stored-loads = stored-back
 
 -- What a call leaves is the link that it gave: the next call from C works on it.
 pub left-loads : (p : Progress) (before after : CLink) (counts : List ℕ) (r : ℕ) → Leaves p before after counts r → linkAt after ≡ p .link
-left-loads = links.left-link
+left-loads = left-link
 
 -- A list of calls from C is a list of runs and single events, each on the link that came out of the one before it: demand 3
 -- (`Agreement` in agreement/specs/Agreed) speaks of it.

@@ -16,7 +16,7 @@ use Rattle.link.specs.View.{Opened}
 use Rattle.agreement.specs.Calls.{Made, Line, following, Met}
 use Rattle.ride.specs.declared.Outcome.{Outcome}
 use Rattle.ride.specs.Ride.{Rode}
-use Rattle.exports.specs.Links.{CLink, linkAt, stored}
+use Rattle.clinks.specs.Links.{CLink, linkAt, stored}
 
 -- A limit is a 32-bit number here. One above 65535 is taken as 65535, which every question of a limit refuses as well.
 unfoldable pub capped : ℕ → ℕ

@@ -1,9 +1,8 @@
 // The link for programs in C, which keep it as ten numbers and eight arrays and lend these to each call. What is lent changes in
 // place; of the state only the marks are copied, which are numbers in C.
 ghost use mathlib.Core.Path.{_≡_};
-ghost use mathlib.Core.List.{map};
-ghost use Prim.Native.Nat.{_%_, _<_};
-ghost use Rattle.exports.specs.Links.{clink, isOn, bit, limitsAt, numbersAt, headOf};
+ghost use Prim.Native.Nat.{_%_};
+ghost use Rattle.clinks.specs.Links.{clink};
 ghost use Rattle.exports.specs.Calls.{capped, asked, kindOf, countsList, OpenCall, StepCall, RunCall, RideCall};
 
 pub mod cframe;
@@ -21,19 +20,6 @@ fn capped_limit(x: u32) -> u16
     if x <= 65535 { x as u16 } else { 65535 }
 }
 
-fn wide(x: u16) -> usize
-    ensures { λ r. ⌜ r ≡ x ⌝ }
-{
-    x as usize
-}
-
-fn narrow(x: usize) -> u16
-    requires { ⌜ x < 65536 ⌝ }
-    ensures { λ r. ⌜ r ≡ x ⌝ }
-{
-    x as u16
-}
-
 fn asked_limits(
     window: u32,
     datalife: u32,
@@ -44,90 +30,12 @@ fn asked_limits(
     ensures { λ r. ⌜ r ≡ asked window datalife replylife replywait resendwait ⌝ }
 {
     Limits {
-        window: wide(capped_limit(window)),
+        window: clinks::wide(capped_limit(window)),
         datalife: capped_limit(datalife),
         replylife: capped_limit(replylife),
         replywait: capped_limit(replywait),
         resendwait: capped_limit(resendwait),
     }
-}
-
-fn is_on(x: u16) -> bool
-    ensures { λ r. ⌜ r ≡ isOn x ⌝ }
-{
-    x != 0
-}
-
-fn marks_of(xs: [u16; 32]) -> [bool; 32]
-    ensures { λ r. ⌜ r ≡ map isOn xs ⌝ }
-{
-    let mut marks = [false; 32];
-    let mut i = 0;
-    while i < 32 {
-        marks[i] = is_on(xs[i]);
-        i += 1;
-    }
-    marks
-}
-
-fn bit_of(mark: bool) -> u16
-    ensures { λ r. ⌜ r ≡ bit mark ⌝ }
-{
-    if mark { 1 } else { 0 }
-}
-
-fn bits_of(marks: [bool; 32]) -> [u16; 32]
-    ensures { λ r. ⌜ r ≡ map bit marks ⌝ }
-{
-    let mut xs = [0u16; 32];
-    let mut i = 0;
-    while i < 32 {
-        xs[i] = bit_of(marks[i]);
-        i += 1;
-    }
-    xs
-}
-
-fn limits_of(h: [u16; 10]) -> Limits
-    ensures { λ r. ⌜ r ≡ limitsAt h ⌝ }
-{
-    Limits {
-        window: wide(h[0]),
-        datalife: h[1],
-        replylife: h[2],
-        replywait: h[3],
-        resendwait: h[4],
-    }
-}
-
-fn numbers_of(h: [u16; 10]) -> Numbers
-    ensures { λ r. ⌜ r ≡ numbersAt h ⌝ }
-{
-    Numbers {
-        oldest: wide(h[5]),
-        next: wide(h[6]),
-        wanted: wide(h[7]),
-        datas: wide(h[8]),
-        replies: wide(h[9]),
-    }
-}
-
-fn head_of(l: Limits, n: Numbers) -> [u16; 10]
-    requires { ⌜ (l .window < 65536) × (n .oldest < 65536) × (n .next < 65536) × (n .wanted < 65536) × (n .datas < 65536) × (n .replies < 65536) ⌝ }
-    ensures { λ r. ⌜ r ≡ headOf l n ⌝ }
-{
-    [
-        narrow(l.window),
-        l.datalife,
-        l.replylife,
-        l.replywait,
-        l.resendwait,
-        narrow(n.oldest),
-        narrow(n.next),
-        narrow(n.wanted),
-        narrow(n.datas),
-        narrow(n.replies),
-    ]
 }
 
 fn counts_of(n: Counts) -> [usize; 3]
@@ -167,7 +75,7 @@ pub extern "C" fn matlink_lent_open(
         datas: 0,
         replies: 0,
     };
-    *head = head_of(l, n);
+    *head = clinks::head_of(l, n);
     *matmark = [0; 32];
     *mattimer = [0; 32];
     *matcell = [0; 512];
@@ -222,12 +130,12 @@ pub extern "C" fn matlink_lent_step(
         (now (padmark .exit)) (now (padtimer .exit)) (now (padcell .exit)) (now (datas .exit)) (now (replies .exit))) (now (counts .exit)) r ⌝ }
 {
     let h = *head;
-    let l = limits_of(h);
-    let mut marks = marks_of(*matmark);
-    let mut held = marks_of(*padmark);
+    let l = clinks::limits_of(h);
+    let mut marks = clinks::marks_of(*matmark);
+    let mut held = clinks::marks_of(*padmark);
     let s = runs::lent_step(
         l,
-        numbers_of(h),
+        clinks::numbers_of(h),
         &mut marks,
         mattimer,
         matcell,
@@ -248,9 +156,9 @@ pub extern "C" fn matlink_lent_step(
         return limits::answer::number(answer);
     };
     let after = s.numbers;
-    *head = head_of(l, after);
-    *matmark = bits_of(marks);
-    *padmark = bits_of(held);
+    *head = clinks::head_of(l, after);
+    *matmark = clinks::bits_of(marks);
+    *padmark = clinks::bits_of(held);
     0
 }
 
@@ -279,12 +187,12 @@ pub extern "C" fn matlink_lent_run(
         (now (padmark .exit)) (now (padtimer .exit)) (now (padcell .exit)) (now (datas .exit)) (now (replies .exit))) (now (counts .exit)) r ⌝ }
 {
     let h = *head;
-    let l = limits_of(h);
-    let mut marks = marks_of(*matmark);
-    let mut held = marks_of(*padmark);
+    let l = clinks::limits_of(h);
+    let mut marks = clinks::marks_of(*matmark);
+    let mut held = clinks::marks_of(*padmark);
     let s = runs::lent_run(
         l,
-        numbers_of(h),
+        clinks::numbers_of(h),
         &mut marks,
         mattimer,
         matcell,
@@ -305,9 +213,9 @@ pub extern "C" fn matlink_lent_run(
         return limits::answer::number(answer);
     };
     let after = s.numbers;
-    *head = head_of(l, after);
-    *matmark = bits_of(marks);
-    *padmark = bits_of(held);
+    *head = clinks::head_of(l, after);
+    *matmark = clinks::bits_of(marks);
+    *padmark = clinks::bits_of(held);
     0
 }
 

@@ -1,5 +1,5 @@
 use borrow.Author.Needs.{needs}
-use Rattle.exports.proofs.Laws.Links.{byte-kind, no-kind}
+use Rattle.exports.proofs.Laws.Calls.{byte-kind, no-kind}
 use Rattle.limits.proofs.Laws.Choice.{and-no-left, and-no-right}
 use lib.Dec.{leb}
 use borrow.Author.Tests.{lt-leb}

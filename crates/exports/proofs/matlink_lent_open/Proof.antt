@@ -1,7 +1,7 @@
 use borrow.Author.Needs.{needs}
 use native.Mathlib.Omega.{arith}
 use Rattle.exports.specs.Calls.{asked}
-use Rattle.exports.proofs.Laws.Links.{accepted-small, capped-small, opened}
+use Rattle.exports.proofs.Laws.Calls.{accepted-small, capped-small, opened}
 use Rattle.exports.proofs.matlink_lent_open.Statement.{statement}
 use Rattle.exports.proofs.matlink_lent_open.Tie as tie
 

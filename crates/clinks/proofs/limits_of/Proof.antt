@@ -1,7 +1,7 @@
 use borrow.Author.Needs.{needs}
 use lib.ListN.{getD}
-use Rattle.exports.proofs.limits_of.Statement.{statement}
-use Rattle.exports.proofs.limits_of.Tie as tie
+use Rattle.clinks.proofs.limits_of.Statement.{statement}
+use Rattle.clinks.proofs.limits_of.Tie as tie
 
 array-read-wide : tie.Need-array-read-wide
 array-read-wide c = search needs

@@ -1,11 +1,11 @@
--- Laws on a link as C keeps it: marks as numbers, what is stored and what it gives back, and what a call in place leaves.
+-- Laws on what calls for C promise: an opening, and what a call in place leaves.
 use Prim.Native.Nat.{ℕ, _≤_, _<_}
 use mathlib.Core.Path.{_≡_, refl, sym, _∙_, ap}
 use mathlib.Core.Bool.{Bool, true, false, _&&_}
-use mathlib.Core.List.{List, [], _∷_, map}
+use mathlib.Core.List.{List, _∷_, map}
 use native.Mathlib.Omega.{arith}
 use lib.Dec.{eqb, leb}
-use lib.ListN.{length, getD, replicate}
+use lib.ListN.{replicate}
 use borrow.Author.Tests.{eqb-true, eqb-false, le-leb, leb-true}
 use Rattle.limits.specs.declared.Limits.{Limits}
 use Rattle.limits.specs.declared.answer.Answer.{Answer}
@@ -14,10 +14,7 @@ use Rattle.limits.specs.Limits.{limitsQuestions, accepted, zeroLimits}
 use Rattle.limits.specs.Questions.{pick, Question, ask, firstNo, Answers, Called}
 use Rattle.limits.proofs.Laws.Choice.{both, test, pick-yes, pick-no, pick-under, pick-cases}
 use Rattle.limits.proofs.Laws.Good.{good}
-use Rattle.limits.proofs.Laws.Lists.{is-tab, map-tab, tab-self}
 use Rattle.limits.proofs.Laws.Promise.{unsound-first}
-use Rattle.rows.specs.Arrays.{changed, from-to}
-use Rattle.rows.proofs.Laws.Changed.{length-changed, changed-at, inside}
 use Rattle.air.proofs.Laws.Typed.{data-count, reply-count}
 use Rattle.events.specs.declared.Link.{Link}
 use Rattle.events.specs.declared.Progress.{Progress}
@@ -27,24 +24,9 @@ use Rattle.events.specs.View.{soundLink}
 use Rattle.events.specs.Lent.{Arrays, arrays, linkOf, progressOf}
 use Rattle.events.proofs.Laws.Parts.{parts, mat-numbers, pad-number}
 use Rattle.link.specs.View.{freshLink}
-use Rattle.exports.specs.Links.{CLink, clink, isOn, bit, limitsAt, numbersAt, headOf, linkAt, stored}
+use Rattle.clinks.specs.Links.{CLink, clink, isOn, bit, limitsAt, numbersAt, headOf, linkAt}
+use Rattle.clinks.proofs.Laws.Links.{stored-back}
 use Rattle.exports.specs.Calls.{capped, asked, kindOf, countsList, OpenCall, Leaves}
-
--- a loop that has written all of an array: it is the other one, read by g
-pub all-read : {A B : Type 0} (d : B) (e : A) (g : A → B) (ys zs : List B) (xs : List A) (i n : ℕ) → length zs ≡ n → length xs ≡ n → i ≡ n
-    → ys ≡ changed d (from-to 0 i) (λ k. g (getD xs k e)) zs → ys ≡ map g xs
-all-read d e g ys zs xs i n l m q h =
-    h
-    ∙ is-tab (changed d (from-to 0 i) (λ k. g (getD xs k e)) zs) n (λ k. g (getD xs k e)) d (length-changed d (from-to 0 i) _ zs ∙ l)
-    (λ k o. changed-at d (from-to 0 i) _ zs k (omega arith) (inside 0 i k (omega arith) (omega arith)))
-    ∙ sym (map-tab g n (λ k. getD xs k e))
-    ∙ ap (map g) (tab-self xs n e m)
-
-pub bit-on : (b : Bool) → b ≡ true → 1 ≡ bit b
-bit-on b e = sym (pick-yes b 1 0 1 e refl)
-
-pub bit-off : (b : Bool) → b ≡ false → 0 ≡ bit b
-bit-off b e = sym (pick-no b 1 0 0 e refl)
 
 pub byte-kind : (kind argument : ℕ) → kind ≤ 255 → argument ≤ 255 → kind ≡ kindOf kind argument
 unfolding kindOf
@@ -53,24 +35,6 @@ byte-kind kind argument h k = sym (pick-yes _ _ _ _ (both _ _ (le-leb kind 255 h
 pub no-kind : (kind argument : ℕ) → (leb kind 255 && leb argument 255) ≡ false → 0 ≡ kindOf kind argument
 unfolding kindOf
 no-kind kind argument e = sym (pick-no _ _ _ _ e refl)
-
--- marks stored and read again
-marks-back : (m : List Bool) → map isOn (map bit m) ≡ m
-unfolding pick
-marks-back [] = refl
-marks-back (true ∷ m) = ap (true ∷_) (marks-back m)
-marks-back (false ∷ m) = ap (false ∷_) (marks-back m)
-
--- a link stored gives itself back
-pub stored-back : (k : Link) → linkAt (stored k) ≡ k
-stored-back k =
-    λ i. record {
-      limits = k .limits;
-      mat = record { oldest = k .mat .oldest; next = k .mat .next; marks = marks-back (k .mat .marks) i; timers = k .mat .timers; cells = k .mat .cells };
-      pad = record { wanted = k .pad .wanted; held = marks-back (k .pad .held) i; timers = k .pad .timers; cells = k .pad .cells };
-      datas = k .datas;
-      replies = k .replies;
-    }
 
 -- what a call leaves is the link that it gave
 pub left-link : (p : Progress) (before after : CLink) (counts : List ℕ) (r : ℕ) → Leaves p before after counts r → linkAt after ≡ p .link

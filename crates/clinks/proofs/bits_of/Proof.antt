@@ -6,10 +6,10 @@ use Rattle.rows.proofs.Laws.Changed.{range-start, range-turn}
 use Prim.Native.Nat.{_-_, _≤_}
 use lib.ListN.{length, getD, length-set}
 use mathlib.Core.Bool.{false}
-use Rattle.exports.specs.Links.{bit}
-use Rattle.exports.proofs.Laws.Links.{all-read}
-use Rattle.exports.proofs.bits_of.Statement.{statement}
-use Rattle.exports.proofs.bits_of.Tie as tie
+use Rattle.clinks.specs.Links.{bit}
+use Rattle.clinks.proofs.Laws.Links.{all-read}
+use Rattle.clinks.proofs.bits_of.Statement.{statement}
+use Rattle.clinks.proofs.bits_of.Tie as tie
 
 abbrev Inv-loop : tie.InvT-loop
 Inv-loop marks xs₀ i₀ xs i = (i ≤ 32) × (length marks ≡ 32) × (length xs₀ ≡ 32) × (length xs ≡ 32) × (xs ≡ changed 0 (from-to 0 i) (λ k. bit (getD marks k false)) xs₀)

@@ -1,7 +1,7 @@
 use borrow.Author.Needs.{needs}
 use mathlib.Core.List.{[], _∷_}
-use Rattle.exports.proofs.head_of.Statement.{statement}
-use Rattle.exports.proofs.head_of.Tie as tie
+use Rattle.clinks.proofs.head_of.Statement.{statement}
+use Rattle.clinks.proofs.head_of.Tie as tie
 
 narrow-requires : tie.Need-narrow-requires
 narrow-requires c κs = search needs

@@ -1,6 +1,6 @@
-use Rattle.exports.proofs.Laws.Links.{bit-on, bit-off}
-use Rattle.exports.proofs.bit_of.Statement.{statement}
-use Rattle.exports.proofs.bit_of.Tie as tie
+use Rattle.clinks.proofs.Laws.Links.{bit-on, bit-off}
+use Rattle.clinks.proofs.bit_of.Statement.{statement}
+use Rattle.clinks.proofs.bit_of.Tie as tie
 
 returns : tie.Need-returns
 returns c = bit-on _ (c .if1 .taken)

@@ -1,6 +1,6 @@
 use borrow.Author.Needs.{needs}
-use Rattle.exports.proofs.numbers_of.Statement.{statement}
-use Rattle.exports.proofs.numbers_of.Tie as tie
+use Rattle.clinks.proofs.numbers_of.Statement.{statement}
+use Rattle.clinks.proofs.numbers_of.Tie as tie
 
 array-read-wide : tie.Need-array-read-wide
 array-read-wide c = search needs

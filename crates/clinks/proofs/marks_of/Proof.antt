@@ -6,10 +6,10 @@ use Rattle.rows.proofs.Laws.Changed.{range-start, range-turn}
 use Prim.Native.Nat.{_-_, _≤_}
 use lib.ListN.{length, getD, length-set}
 use mathlib.Core.Bool.{false}
-use Rattle.exports.specs.Links.{isOn}
-use Rattle.exports.proofs.Laws.Links.{all-read}
-use Rattle.exports.proofs.marks_of.Statement.{statement}
-use Rattle.exports.proofs.marks_of.Tie as tie
+use Rattle.clinks.specs.Links.{isOn}
+use Rattle.clinks.proofs.Laws.Links.{all-read}
+use Rattle.clinks.proofs.marks_of.Statement.{statement}
+use Rattle.clinks.proofs.marks_of.Tie as tie
 
 abbrev Inv-loop : tie.InvT-loop
 Inv-loop xs marks₀ i₀ marks i = (i ≤ 32) × (length xs ≡ 32) × (length marks₀ ≡ 32) × (length marks ≡ 32) × (marks ≡ changed false (from-to 0 i) (λ k. isOn (getD xs k 0)) marks₀)
