@@ -6,12 +6,9 @@ use native.Mathlib.Nat.{suc-add}
 use native.Mathlib.Omega.{arith}
 use lib.ListN.{length, take, drop, getD, set, length-append, drop-of-length-le, take-append-drop}
 use lib.Seq.{drop-nil, take-at, take-all, drop-drop, drop-append-add, paste, paste-suc, sets, sets-eq}
-use Rattle.limits.specs.Answer.{numberOf}
 use Rattle.limits.specs.Lists.{tab}
-use Rattle.limits.specs.Questions.{Question}
 use Rattle.limits.proofs.Laws.Lists.{length-tab, tab-more}
-use Rattle.bytes.specs.declared.Written.{Written}
-use Rattle.bytes.specs.Buffers.{wrote, Wrote, Writing, WriteCall, WriteNumber}
+use Rattle.bytes.specs.Buffers.{wrote, Wrote}
 
 -- text behind text, by the place of the first
 at-front : (a b xs : List ℕ) (n m : ℕ) → length a ≡ n → m ≡ n + length b
@@ -127,8 +124,3 @@ left-end at text xs p rest ys l e =
       buffer = none-wrote p ys .buffer ∙ ap (λ r. wrote p r ys) (sym e) ∙ l .buffer;
       behind = let t = ap length e in let n = l .behind in omega arith;
     }
-
--- a function for C that tells the number and the count of a writer's call
-pub told : (qs : List Question) (done : Writing) (w : Written) (before after : List ℕ) (r : ℕ) → r ≡ numberOf (w .answer) → WriteCall qs done w before after
-    → WriteNumber qs done before after (w .count) r
-told qs done w before after r e c = record { number = e ∙ c .number; result = c .result }
