@@ -1,4 +1,6 @@
 // The limits of a link and questions 1 to 3, the answers of the whole product, legal cells, and steps on the ring of numbers.
+#![tactic(auto)]
+
 ghost use Rattle.std.specs.Prelude.{◌≡◌, true};
 ghost use Rattle.limits.specs.Answer.{number_of};
 ghost use Rattle.limits.specs.Questions.{Answers, first_no};
@@ -23,7 +25,7 @@ use answer::Answer;
 
 // Times are in ticks: the lives of data and replies in the air, the pad's reply wait (acknowledgment delay) and the mat's
 // resend wait (retransmission timeout).
-#[derive(Drop)]
+#[derive(Clone, Copy)]
 pub struct Limits {
     pub window: usize,
     pub datalife: u16,
@@ -32,7 +34,7 @@ pub struct Limits {
     pub resendwait: u16,
 }
 
-#[derive(Drop)]
+#[derive(Clone, Copy)]
 pub struct Accepted {
     pub answer: Answer,
     pub limits: Limits,

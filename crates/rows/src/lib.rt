@@ -1,5 +1,7 @@
 // Inner: called by tables, air, mat, pad and frames. Work on rows of 16 cells and on arrays of 32 entries, each helper with what
 // it needs alone.
+#![tactic(auto)]
+
 ghost use Rattle.std.specs.Prelude.{◌≡◌, ◌+◌, ◌-◌, ◌≤◌, ◌<◌, ◌%◌, length, take, drop, get_or, set, false, not, ◌&&◌, leb};
 ghost use Rattle.limits.specs.Lists.{tab, all};
 ghost use Rattle.limits.specs.Cells.{row_at, legal_cell, legal_row};

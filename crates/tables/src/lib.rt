@@ -1,5 +1,7 @@
 // Inner: called by air. A table of messages as a lent slice of words: message p stands at width * p, its life first. What is
 // written here serves tables of every width.
+#![tactic(auto)]
+
 ghost use Rattle.std.specs.Prelude.{◌≡◌, ◌+◌, ◌-◌, ◌*◌, ◌≤◌, ◌<◌, length};
 ghost use Rattle.limits.specs.Lists.{tab, leading};
 ghost use Rattle.limits.specs.Tables.{put, remove, age};

@@ -1,31 +1,19 @@
 -- Laws on what a call promises: from the first no to the two records that contracts cite.
-use Prim.Native.Nat.{ℕ, zero, suc, ◌≤◌, ◌<◌}
+use Prim.Native.Nat.{ℕ, ◌≤◌, ◌<◌}
 use mathlib.Core.Path.{◌≡◌, refl, sym, ◌∙◌, ap, ap₂}
 use mathlib.Core.Bool.{Bool, true, false}
-use mathlib.Core.List.{List, [], ◌∷◌}
-use types.Run.{OneOf, miss}
-use denote.Enum.Declared.{tag_of}
+use mathlib.Core.List.{List, ◌∷◌}
 use lib.Dec.{eqb}
 use borrow.Author.Tests.{le-leb, lt-leb, eq-eqb}
 use Rattle.limits.specs.declared.answer.Answer.{Answer}
 use Rattle.limits.specs.declared.answer.Answer.TheVariants.{Done, BadWindow, BadTimes, BadWait, Unsound, OddEvents, PartialRow, ShortAnswers, UnknownKind, BadArgument, WindowFull, NoRowLeft, IllegalCell, DataTableFull, NotOutstanding, AlreadyAcknowledged, TimerRunning, NoMessage, ReplyTableFull, SpanNotOutstanding, NothingReady, RecordFull, UnknownFrame, BadFrameLength, BadFrameWindow, BadFrameNumber, BadFrameLife, BadFrameSpan, ShortBuffer, BadInputLength, BadRecordLength, NoSuchPage, ShortPageBuffer}
 use Rattle.limits.specs.Answer.{number_of}
 use Rattle.limits.specs.Questions.{pick, Question, ask, first_no, Answers, Called, time_questions}
-use Rattle.limits.specs.contracts.answer.Answer.{the_type}
 use Rattle.limits.proofs.Laws.Choice.{pick_yes, pick_no, pick_under}
 
--- n numbers from a on
-abbrev up_from : ℕ → ℕ → List ℕ
-up_from a zero = []
-up_from a (suc n) = a ∷ up_from (suc a) n
-
--- the tags of the answers other than `Done`
-abbrev pub refusals : List ℕ
-refusals = up_from 1 32
-
 -- the else of a `let Answer::Done = answer else`
-pub not_done : (a : Answer) → OneOf refusals (tag_of the_type a) → eqb (number_of a) 0 ≡ false
-not_done Done k = absurd (miss refusals 0 tt k)
+pub not_done : (a : Answer) → (a ≡ Done → ⊥) → eqb (number_of a) 0 ≡ false
+not_done Done k = absurd (k refl)
 not_done BadWindow k = refl
 not_done BadTimes k = refl
 not_done BadWait k = refl
