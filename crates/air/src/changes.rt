@@ -14,14 +14,14 @@ use limits::Limits;
 use limits::answer::Answer;
 
 // The answer, and what the message carries or zeros.
-#[derive(Drop)]
+#[derive(Clone, Copy)]
 pub struct FoundData {
     pub answer: Answer,
     pub number: usize,
     pub row: [u16; 16],
 }
 
-#[derive(Drop)]
+#[derive(Clone, Copy)]
 pub struct FoundReply {
     pub answer: Answer,
     pub first: usize,

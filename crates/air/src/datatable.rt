@@ -12,19 +12,19 @@ use crate::{lent, messages};
 use limits::Limits;
 use limits::answer::Answer;
 
-#[derive(Drop)]
+#[derive(Clone, Copy)]
 pub struct DataTable {
     pub count: usize,
     pub words: [u16; 576],
 }
 
-#[derive(Drop)]
+#[derive(Clone, Copy)]
 pub struct DataAnswer {
     pub answer: Answer,
     pub table: DataTable,
 }
 
-#[derive(Drop)]
+#[derive(Clone, Copy)]
 pub struct DataRead {
     pub answer: Answer,
     pub message: DataMessage,

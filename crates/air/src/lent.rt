@@ -11,14 +11,14 @@ ghost use Rattle.air.specs.Kinds.{width_of, full_of, sound_carrying, sound_head,
 use limits::Limits;
 use limits::answer::Answer;
 
-#[derive(Drop)]
+#[derive(Clone, Copy)]
 pub enum Kind {
     OfData,
     OfReplies,
 }
 
 // What a call on a lent table gives: the answer, and how many messages the table then has.
-#[derive(Drop)]
+#[derive(Clone, Copy)]
 pub struct Counted {
     pub answer: Answer,
     pub count: usize,

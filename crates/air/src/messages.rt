@@ -7,14 +7,14 @@ ghost use Rattle.air.specs.Kinds.{data_of, reply_of};
 ghost use Rattle.air.specs.Data.{data_message};
 ghost use Rattle.air.specs.Replies.{reply_message};
 
-#[derive(Drop)]
+#[derive(Clone, Copy)]
 pub struct DataMessage {
     pub number: u16,
     pub life: u16,
     pub row: [u16; 16],
 }
 
-#[derive(Drop)]
+#[derive(Clone, Copy)]
 pub struct ReplyMessage {
     pub first: u16,
     pub last: u16,

@@ -12,19 +12,19 @@ use crate::{lent, messages};
 use limits::Limits;
 use limits::answer::Answer;
 
-#[derive(Drop)]
+#[derive(Clone, Copy)]
 pub struct ReplyTable {
     pub count: usize,
     pub words: [u16; 96],
 }
 
-#[derive(Drop)]
+#[derive(Clone, Copy)]
 pub struct ReplyAnswer {
     pub answer: Answer,
     pub table: ReplyTable,
 }
 
-#[derive(Drop)]
+#[derive(Clone, Copy)]
 pub struct ReplyRead {
     pub answer: Answer,
     pub message: ReplyMessage,

@@ -1,4 +1,6 @@
 // The mat (sender). Each call puts question 4 first: to the limits, the mat and the message handed to it.
+#![tactic(auto)]
+
 ghost use Rattle.std.specs.Prelude.{◌≡◌, ◌&&◌, ◌∷◌, replicate};
 ghost use Rattle.limits.specs.Questions.{ask, time_questions};
 ghost use Rattle.limits.specs.Limits.{sound_limits};
@@ -13,7 +15,7 @@ use limits::answer::Answer;
 
 // `oldest` and `next` are numbers modulo 2w: the first unacknowledged row and the one to be sent. Row m stands at place m mod w,
 // beside its mark (acknowledged) and its resend timer (retransmission timer).
-#[derive(Drop)]
+#[derive(Clone, Copy)]
 pub struct Mat {
     pub oldest: usize,
     pub next: usize,
@@ -72,7 +74,7 @@ pub fn assembled(
 }
 
 // `number` and `row` are the message to put in the data table.
-#[derive(Drop)]
+#[derive(Clone, Copy)]
 pub struct Sent {
     pub answer: Answer,
     pub mat: Mat,
@@ -81,14 +83,14 @@ pub struct Sent {
 }
 
 // Oldest rose by `passed` rows.
-#[derive(Drop)]
+#[derive(Clone, Copy)]
 pub struct Acknowledged {
     pub answer: Answer,
     pub mat: Mat,
     pub passed: usize,
 }
 
-#[derive(Drop)]
+#[derive(Clone, Copy)]
 pub struct Ticked {
     pub answer: Answer,
     pub mat: Mat,

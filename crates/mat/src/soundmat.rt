@@ -99,21 +99,21 @@ pub fn mat_sound(
 }
 
 // What a send finds: the answer, and the row to send or zeros.
-#[derive(Drop)]
+#[derive(Clone, Copy)]
 pub struct NextRow {
     pub answer: Answer,
     pub row: [u16; 16],
 }
 
 // What a resend finds: the answer, and the number of the row to send again or 0.
-#[derive(Drop)]
+#[derive(Clone, Copy)]
 pub struct DueNumber {
     pub answer: Answer,
     pub number: usize,
 }
 
 // What an arriving reply gives: the answer, oldest, and by how many rows it rose.
-#[derive(Drop)]
+#[derive(Clone, Copy)]
 pub struct Passed {
     pub answer: Answer,
     pub oldest: usize,

@@ -1,4 +1,6 @@
 // The pad (receiver). Each call puts question 4 first: to the limits, the pad and the message handed to it.
+#![tactic(auto)]
+
 ghost use Rattle.std.specs.Prelude.{◌≡◌, true, ◌&&◌, [], ◌∷◌, length};
 ghost use Rattle.limits.specs.Questions.{ask, Answers, time_questions};
 ghost use Rattle.limits.specs.Limits.{sound_limits};
@@ -13,7 +15,7 @@ use limits::answer::Answer;
 
 // `wanted` is the number, modulo 2w, of the first row that is not recorded. Row m stands at place m mod w, beside its mark (held)
 // and its reply timer.
-#[derive(Drop)]
+#[derive(Clone, Copy)]
 pub struct Pad {
     pub wanted: usize,
     pub held: [bool; 32],
@@ -58,7 +60,7 @@ pub fn assembled(wanted: usize, held: [bool; 32], timers: [u16; 32], cells: [u16
 }
 
 // Where the row was an old one, `first` and `last` are the reply to put.
-#[derive(Drop)]
+#[derive(Clone, Copy)]
 pub struct Arrived {
     pub answer: Answer,
     pub pad: Pad,
@@ -67,14 +69,14 @@ pub struct Arrived {
     pub last: usize,
 }
 
-#[derive(Drop)]
+#[derive(Clone, Copy)]
 pub struct RunLength {
     pub answer: Answer,
     pub count: usize,
 }
 
 // `count` rows were recorded, and `first` and `last` are the reply to put.
-#[derive(Drop)]
+#[derive(Clone, Copy)]
 pub struct Replied {
     pub answer: Answer,
     pub pad: Pad,
@@ -83,7 +85,7 @@ pub struct Replied {
     pub last: usize,
 }
 
-#[derive(Drop)]
+#[derive(Clone, Copy)]
 pub struct Ticked {
     pub answer: Answer,
     pub pad: Pad,

@@ -74,7 +74,7 @@ pub fn pad_sound(
 }
 
 // What recording a run gives: the number wanted then, and the last number of the run.
-#[derive(Drop)]
+#[derive(Clone, Copy)]
 pub struct Recorded {
     pub wanted: usize,
     pub last: usize,

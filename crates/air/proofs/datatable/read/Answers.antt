@@ -1,0 +1,25 @@
+use mathlib.Core.Path.{◌≡◌, ◌∙◌, ap}
+use native.Mathlib.Omega.{arith}
+use lib.ListN.{length}
+use lib.Dec.{eqb}
+use Rattle.limits.specs.Answer.{number_of}
+use Rattle.limits.proofs.Laws.Promise.{answers-done, answers-refused, not_done}
+use Rattle.air.proofs.Laws.Typed.{found_below, data-at, data-asked-place}
+use Rattle.air.specs.Kinds.{lent}
+use Rattle.air.specs.declared.lent.Kind.TheVariants.{OfData}
+use Rattle.std.proofs.Common.{rules}
+use Rattle.air.proofs.datatable.read.Goals as goal
+
+pub found-answer-requires : goal.found-answer-requires
+found-answer-requires c = let h : length c.args.t.words ≡ 576 = search rules in omega arith
+
+pub returns-in_default : goal.returns-in_default
+returns-in_default c = answers-refused _ _ _ _ _ (ap number_of c.unread.ensures.0 ∙ c.found-answer.ensures ∙ data-asked-place c.args.l (lent c.args.t.count c.args.t.words) c.args.p) (ap (λ a. eqb (number_of a) 0) c.unread.ensures.0 ∙ not_done c.found-answer.result c.in_default.not-Done) c.unread.ensures.1
+
+pub data_at-requires : goal.data_at-requires
+data_at-requires c = let h : length c.args.t.words ≡ 576 = search rules in let p = found_below c.args.l OfData c.args.t.count c.args.t.words c.args.p c.found-answer.result c.found-answer.ensures (ap number_of c.in-Done.is) in omega arith
+
+pub returns : goal.returns
+returns c =
+    let p = found_below c.args.l OfData c.args.t.count c.args.t.words c.args.p c.found-answer.result c.found-answer.ensures (ap number_of c.in-Done.is) in
+    answers-done _ _ _ _ _ (c.found-answer.ensures ∙ data-asked-place c.args.l (lent c.args.t.count c.args.t.words) c.args.p) (ap number_of c.in-Done.is) (c.data_at.ensures ∙ data-at _ _ _ p.0)

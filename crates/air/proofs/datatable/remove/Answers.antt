@@ -1,0 +1,13 @@
+use mathlib.Core.Path.{◌≡◌}
+use native.Mathlib.Omega.{arith}
+use lib.ListN.{length}
+use Rattle.air.specs.Kinds.{lent}
+use Rattle.air.proofs.Laws.Calls.{data-remove}
+use Rattle.std.proofs.Common.{rules}
+use Rattle.air.proofs.datatable.remove.Goals as goal
+
+pub remove-r-requires : goal.remove-r-requires
+remove-r-requires c = let h : length c.args.t.words ≡ 576 = search rules in omega arith
+
+pub returns : goal.returns
+returns c = data-remove c.args.l (lent c.args.t.count c.args.t.words) _ c.remove-r.result.answer _ c.assembled.ensures c.args.p c.remove-r.ensures

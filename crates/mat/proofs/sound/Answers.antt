@@ -1,0 +1,12 @@
+use Rattle.limits.proofs.Laws.Choice.{and-goes-on, and-stops}
+use mathlib.Core.Path.{sym, ◌∙◌}
+use Rattle.mat.proofs.sound.Goals as goal
+
+pub mat_sound-requires : goal.mat_sound-requires
+mat_sound-requires c = sym c.sound_limits.ensures ∙ c.if-sound_limits.true
+
+pub returns-then-sound_limits : goal.returns-then-sound_limits
+returns-then-sound_limits c = c.mat_sound.ensures ∙ and-goes-on _ _ (sym c.sound_limits.ensures ∙ c.if-sound_limits.true)
+
+pub returns-else-sound_limits : goal.returns-else-sound_limits
+returns-else-sound_limits c = c.sound_limits.ensures ∙ and-stops _ _ (sym c.sound_limits.ensures ∙ c.if-sound_limits.false)
