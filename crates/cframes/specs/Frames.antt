@@ -4,7 +4,7 @@ use Rattle.limits.specs.Questions.{pick, Question, ask, first_no}
 use Rattle.frames.specs.declared.DataFrame.{DataFrame}
 use Rattle.frames.specs.declared.ReplyFrame.{ReplyFrame}
 use Rattle.frames.specs.Layout.{Reading, reading, data_into, reply_into}
-use Rattle.bytes.specs.Buffers.{Writing, writing, WriteNumber}
+use Rattle.buffers.specs.Buffers.{Writing, writing, WriteNumber}
 use Rattle.frames.specs.Rules.{read_questions, write_data_questions, write_reply_questions}
 
 pub record Fields : Type 0 where

@@ -1,4 +1,6 @@
 // Frames as they travel over the air: read from any bytes, and written into a lent buffer.
+#![tactic(auto)]
+
 ghost use Rattle.std.specs.Prelude.{◌≤◌, ◌%◌, ◌/◌, ◌≡◌, [], ◌∷◌, ◌++◌, length, take, drop};
 ghost use Rattle.limits.specs.Answer.{number_of};
 ghost use Rattle.limits.specs.Lists.{tab};
@@ -24,13 +26,13 @@ ghost use Rattle.frames.specs.Rules.{
   write_reply_questions,
   ReadCall,
 };
-ghost use Rattle.bytes.specs.Buffers.{writing, WriteCall};
+ghost use Rattle.buffers.specs.Buffers.{writing, WriteCall};
 
-use bytes::Written;
+use buffers::Written;
 use limits::answer::Answer;
 
 // A row under its number (a data packet).
-#[derive(Drop)]
+#[derive(Clone, Copy)]
 pub struct DataFrame {
     pub life: u16,
     pub window: usize,
@@ -39,7 +41,7 @@ pub struct DataFrame {
 }
 
 // The numbers from first to last (a block acknowledgment).
-#[derive(Drop)]
+#[derive(Clone, Copy)]
 pub struct ReplyFrame {
     pub life: u16,
     pub window: usize,
@@ -48,7 +50,7 @@ pub struct ReplyFrame {
 }
 
 // `kind` is the first byte: 1 gives `dataframe`, 2 gives `replyframe`, and the other one is zeros. It is 0 where the answer is no.
-#[derive(Drop)]
+#[derive(Clone, Copy)]
 pub struct FrameRead {
     pub answer: Answer,
     pub kind: u8,
@@ -311,7 +313,7 @@ pub fn write_data(f: DataFrame, buffer: &mut [u8]) -> Written
 {
     let answer = data_answer(f);
     let Answer::Done = answer else {
-        return bytes::not_written(answer);
+        return buffers::not_written(answer);
     };
     if 36 <= buffer.len() {
         put_data(f, buffer);
@@ -320,7 +322,7 @@ pub fn write_data(f: DataFrame, buffer: &mut [u8]) -> Written
             count: 36,
         }
     } else {
-        bytes::not_written(Answer::ShortBuffer)
+        buffers::not_written(Answer::ShortBuffer)
     }
 }
 
@@ -331,7 +333,7 @@ pub fn write_reply(f: ReplyFrame, buffer: &mut [u8]) -> Written
 {
     let answer = reply_answer(f);
     let Answer::Done = answer else {
-        return bytes::not_written(answer);
+        return buffers::not_written(answer);
     };
     if 5 <= buffer.len() {
         put_reply(f, buffer);
@@ -340,6 +342,6 @@ pub fn write_reply(f: ReplyFrame, buffer: &mut [u8]) -> Written
             count: 5,
         }
     } else {
-        bytes::not_written(Answer::ShortBuffer)
+        buffers::not_written(Answer::ShortBuffer)
     }
 }

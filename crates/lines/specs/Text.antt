@@ -1,7 +1,7 @@
 -- The trial's output, in ASCII bytes.
 use Rattle.std.specs.Prelude.{ℕ, ◌/◌, ◌%◌, List, [], ◌∷◌, ◌++◌, ltb}
 use Rattle.limits.specs.Questions.{pick}
-use Rattle.bytes.specs.Ascii.{digit, space, newline}
+use Rattle.buffers.specs.Ascii.{digit, space, newline}
 
 -- a number below 1000, without leading zeros
 unfoldable pub decimal : ℕ → List ℕ

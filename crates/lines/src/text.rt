@@ -7,7 +7,7 @@ ghost use Rattle.lines.specs.Text.{
   counts_line,
   refused_line,
 };
-ghost use Rattle.bytes.specs.Buffers.{Wrote};
+ghost use Rattle.buffers.specs.Buffers.{Wrote};
 
 // Decimal, without leading zeros.
 pub fn number(buffer: &mut [u8], at: usize, n: u8) -> usize
@@ -35,7 +35,7 @@ fn field(buffer: &mut [u8], at: usize, n: u8, text: &[u8]) -> usize
     ensures { Wrote at (decimal n ++ text.now) buffer.old buffer.new result }
 {
     let next = number(buffer, at, n);
-    bytes::word(buffer, next, text)
+    buffers::word(buffer, next, text)
 }
 
 pub fn event_line(buffer: &mut [u8], at: usize, kind: u8, argument: u8, answer: u8) -> usize
@@ -69,7 +69,7 @@ pub fn counts_line(buffer: &mut [u8], at: usize, sent: u8, acknowledged: u8, rec
     requires { at + 40 ≤ length buffer.old }
     ensures { Wrote at (counts_line sent acknowledged recorded) buffer.old buffer.new result }
 {
-    let first = bytes::word(buffer, at, b"sent ");
+    let first = buffers::word(buffer, at, b"sent ");
     let second = field(buffer, first, sent, b" acknowledged ");
     let third = field(buffer, second, acknowledged, b" recorded ");
     field(buffer, third, recorded, b"\n")
@@ -79,6 +79,6 @@ pub fn refused_line(buffer: &mut [u8], at: usize, n: u8) -> usize
     requires { at + 12 ≤ length buffer.old }
     ensures { Wrote at (refused_line n) buffer.old buffer.new result }
 {
-    let next = bytes::word(buffer, at, b"refused ");
+    let next = buffers::word(buffer, at, b"refused ");
     field(buffer, next, n, b"\n")
 }

@@ -3,7 +3,7 @@ use Rattle.std.specs.Prelude.{ℕ, ◌+◌, ◌-◌, ◌*◌, ◌/◌, ◌%◌, 
 use Rattle.limits.specs.Questions.{pick, Question, ask}
 use Rattle.limits.specs.Lists.{tab, all, joined}
 use Rattle.limits.specs.Cells.{row_at, legal_row}
-use Rattle.bytes.specs.Ascii.{digit, space, newline}
+use Rattle.buffers.specs.Ascii.{digit, space, newline}
 
 -- a cell times 10 divided by 4096, rounded down
 unfoldable pub shade : ℕ → ℕ

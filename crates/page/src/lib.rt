@@ -1,13 +1,15 @@
 // A page of a record: up to 60 of its rows as text.
+#![tactic(auto)]
+
 ghost use Rattle.std.specs.Prelude.{◌≡◌, ◌+◌, ◌*◌, ◌≤◌, length};
 ghost use Rattle.limits.specs.Answer.{number_of};
 ghost use Rattle.limits.specs.Questions.{first_no};
-ghost use Rattle.bytes.specs.Buffers.{wrote, writing, WriteCall};
+ghost use Rattle.buffers.specs.Buffers.{wrote, writing, WriteCall};
 ghost use Rattle.page.specs.Page.{rows_on, lines_from, page_bytes, page_into, record_fits, page_questions};
 
 mod line;
 
-use bytes::Written;
+use buffers::Written;
 use limits::answer::Answer;
 
 // How many rows page p has. 60 times p is formed only where it is below `rows`.
@@ -75,7 +77,7 @@ pub fn page(record: &[u16], p: usize, out: &mut [u8]) -> Written
 {
     let answer = page_answer(record, p, out.len());
     let Answer::Done = answer else {
-        return bytes::not_written(answer);
+        return buffers::not_written(answer);
     };
     let n = rows_on(record.len() / 16, p);
     lines(out, record, 60 * p, n);

@@ -1,7 +1,7 @@
 // Inner: called by page. One line, written at a place of a buffer that has room.
 ghost use Rattle.std.specs.Prelude.{◌≡◌, ◌++◌, map, ◌+◌, ◌≤◌, length, take, drop};
-ghost use Rattle.bytes.specs.Ascii.{space};
-ghost use Rattle.bytes.specs.Buffers.{wrote};
+ghost use Rattle.buffers.specs.Ascii.{space};
+ghost use Rattle.buffers.specs.Buffers.{wrote};
 ghost use Rattle.page.specs.Page.{shade, printed, column, number_text, line_text};
 
 fn shade(cell: u16) -> u8

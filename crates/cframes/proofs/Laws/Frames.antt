@@ -14,8 +14,8 @@ use Rattle.limits.proofs.Laws.Promise.{none-no, done-of}
 use Rattle.frames.specs.declared.DataFrame.{DataFrame}
 use Rattle.frames.specs.declared.ReplyFrame.{ReplyFrame}
 use Rattle.frames.specs.declared.FrameRead.{FrameRead}
-use Rattle.bytes.specs.declared.Written.{Written}
-use Rattle.bytes.specs.Buffers.{Writing, writing, WriteCall}
+use Rattle.buffers.specs.declared.Written.{Written}
+use Rattle.buffers.specs.Buffers.{Writing, writing, WriteCall}
 use Rattle.frames.specs.Layout.{byte, is_data, Reading, reading, data_of, reply_of, data_read, reply_read, nothing_read, data_into, reply_into}
 use Rattle.frames.specs.Rules.{read_questions, ReadCall, data_questions, reply_questions, write_data_questions, write_reply_questions}
 use Rattle.frames.proofs.Laws.Values.{data-fits, reply-fits}

@@ -12,7 +12,7 @@ use Rattle.limits.specs.declared.answer.Answer.TheVariants.{Done, ShortBuffer}
 use Rattle.limits.specs.Answer.{number_of}
 use Rattle.limits.specs.Questions.{Question, ask, first_no, Answers}
 use Rattle.limits.proofs.Laws.Promise.{answers-done, answers-refused}
-use Rattle.bytes.specs.Buffers.{writing}
+use Rattle.buffers.specs.Buffers.{writing}
 use Rattle.limits.proofs.Laws.Questions.{numbered, more_stays, more-passes, more-fails}
 
 -- four bytes in front of the cells

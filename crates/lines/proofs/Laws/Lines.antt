@@ -5,8 +5,8 @@ use mathlib.Core.List.{List, [], ◌∷◌, ◌++◌}
 use native.Mathlib.Omega.{arith}
 use lib.ListN.{length, drop, get_or, length-append, length-drop}
 use lib.Seq.{drop-cons}
-use Rattle.bytes.specs.Buffers.{Wrote}
-use Rattle.bytes.proofs.Laws.Buffers.{Left, left-turn, left_end}
+use Rattle.buffers.specs.Buffers.{Wrote}
+use Rattle.buffers.proofs.Laws.Buffers.{Left, left-turn, left_end}
 use Rattle.lines.specs.Text.{event_line, event_lines}
 use Rattle.lines.proofs.Laws.Text.{decimal-most}
 

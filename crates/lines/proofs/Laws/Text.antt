@@ -7,9 +7,9 @@ use lib.Dec.{ltb}
 use lib.ListN.{length, set, length-append}
 use borrow.Author.Tests.{lt-ltb, le-ltb}
 use Rattle.limits.proofs.Laws.Choice.{pick_yes, pick_no, pick-cases}
-use Rattle.bytes.specs.Ascii.{digit, space, newline}
-use Rattle.bytes.specs.Buffers.{Wrote}
-use Rattle.bytes.proofs.Laws.Buffers.{stored, both-wrote, same-wrote}
+use Rattle.buffers.specs.Ascii.{digit, space, newline}
+use Rattle.buffers.specs.Buffers.{Wrote}
+use Rattle.buffers.proofs.Laws.Buffers.{stored, both-wrote, same-wrote}
 use Rattle.lines.specs.Text.{decimal, sent_word, acknowledged_word, recorded_word, refused_word, event_line, counts_line, refused_line}
 
 pub one-digit : (xs : List ℕ) (at n : ℕ) → at + 3 ≤ length xs → n < 10 → Wrote at (decimal n) xs (set xs at (48 + n)) (at + 1)

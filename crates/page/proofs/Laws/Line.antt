@@ -9,9 +9,9 @@ use borrow.Author.Tests.{lt-ltb, le-ltb}
 use Rattle.limits.specs.Lists.{tab}
 use Rattle.limits.proofs.Laws.Choice.{pick_yes, pick_no}
 use Rattle.limits.proofs.Laws.Lists.{map-tab, part-tab}
-use Rattle.bytes.specs.Ascii.{space}
-use Rattle.bytes.specs.Buffers.{wrote, Wrote}
-use Rattle.bytes.proofs.Laws.Buffers.{wrote_on, wrote-byte, stored}
+use Rattle.buffers.specs.Ascii.{space}
+use Rattle.buffers.specs.Buffers.{wrote, Wrote}
+use Rattle.buffers.proofs.Laws.Buffers.{wrote_on, wrote-byte, stored}
 use Rattle.page.specs.Page.{printed, column, number_text, line_text}
 
 pub column-space : (n unit : ℕ) → n < unit → 32 ≡ column n unit

@@ -14,8 +14,8 @@ use Rattle.limits.proofs.Laws.Choice.{pick_yes, pick_no, split, and_right}
 use Rattle.limits.proofs.Laws.Lists.{tab-more, joined-append}
 use Rattle.limits.proofs.Laws.Questions.{each}
 use Rattle.rows.proofs.Laws.Cells.{length_part, legal-rows}
-use Rattle.bytes.specs.Buffers.{wrote, writing}
-use Rattle.bytes.proofs.Laws.Buffers.{wrote_on, wrote-front}
+use Rattle.buffers.specs.Buffers.{wrote, writing}
+use Rattle.buffers.proofs.Laws.Buffers.{wrote_on, wrote-front}
 use Rattle.page.specs.Page.{printed, line_text, rows_in, rows_on, lines_from, page_text, page_bytes, page_into, record_fits, legal_page, page_questions}
 
 -- how many rows a page has

@@ -1,0 +1,15 @@
+use native.Mathlib.Omega.{arith}
+use mathlib.Core.Path.{◌∙◌}
+use lib.ListN.{take, drop, length-set}
+use Rattle.rows.proofs.Laws.Cells.{length_part}
+use Rattle.page.proofs.Laws.Line.{line_wrote}
+use Rattle.page.proofs.line.line.Goals as goal
+
+pub shape_of-out : goal.shape_of-out
+shape_of-out c = simp length-set (c.print_row.auto.out ∙ c.number.auto.out)
+
+pub returns : goal.returns
+returns c =
+    let a = c.args in
+    let h = length_part a.cells.now a.from (omega arith) in
+    line_wrote _ _ _ (take 16 (drop a.from a.cells.now)) _ a.n h c.number.ensures c.print_row.ensures (omega arith)
