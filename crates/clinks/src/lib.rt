@@ -1,5 +1,7 @@
 // Inner: called by exports. A link as programs in C keep it, ten numbers and eight arrays: the numbers taken apart and put together,
 // and marks, which are numbers in C, as bools.
+#![tactic(auto)]
+
 ghost use Rattle.std.specs.Prelude.{◌≡◌, map, ◌<◌};
 ghost use Rattle.clinks.specs.Links.{is_on, bit, limits_at, numbers_at, head_of};
 

@@ -1,4 +1,6 @@
 // The events of a link: what each asks and does, on the link's numbers and its lent arrays.
+#![tactic(auto)]
+
 pub mod airevents;
 pub mod matevents;
 pub mod moves;
@@ -12,7 +14,7 @@ use mat::Mat;
 use pad::Pad;
 
 // The mat, the pad and the messages in the air between them.
-#[derive(Drop)]
+#[derive(Clone, Copy)]
 pub struct Link {
     pub limits: Limits,
     pub mat: Mat,
@@ -22,14 +24,14 @@ pub struct Link {
 }
 
 // By how many rows sent, acknowledged and recorded rose.
-#[derive(Drop)]
+#[derive(Clone, Copy)]
 pub struct Counts {
     pub sent: usize,
     pub acknowledged: usize,
     pub recorded: usize,
 }
 
-#[derive(Drop)]
+#[derive(Clone, Copy)]
 pub struct Progress {
     pub answer: Answer,
     pub link: Link,

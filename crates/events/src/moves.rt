@@ -8,7 +8,7 @@ use crate::Counts;
 use limits::answer::Answer;
 
 // The mat's two numbers, the pad's one, and how many messages each table has.
-#[derive(Drop)]
+#[derive(Clone, Copy)]
 pub struct Numbers {
     pub oldest: usize,
     pub next: usize,
@@ -17,7 +17,7 @@ pub struct Numbers {
     pub replies: usize,
 }
 
-#[derive(Drop)]
+#[derive(Clone, Copy)]
 pub struct Step {
     pub answer: Answer,
     pub numbers: Numbers,

@@ -1,4 +1,6 @@
 // The link: opening, the call for one event, and the run.
+#![tactic(auto)]
+
 ghost use Rattle.std.specs.Prelude.{◌≡◌};
 ghost use Rattle.events.specs.View.{sound_link};
 ghost use Rattle.events.specs.Lent.{numbers_of, link_of, arrays};
@@ -11,7 +13,7 @@ use events::{Link, Progress};
 use limits::Limits;
 use limits::answer::Answer;
 
-#[derive(Drop)]
+#[derive(Clone, Copy)]
 pub struct Opening {
     pub answer: Answer,
     pub link: Link,

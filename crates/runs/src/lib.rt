@@ -1,5 +1,7 @@
 // Inner: called by the link's calls and by the functions for C. Question 4, the call for one event and the run, on the numbers and
 // the lent arrays of a link. The arrays change in place; a refused call leaves them as they are.
+#![tactic(auto)]
+
 ghost use Rattle.std.specs.Prelude.{◌≡◌};
 ghost use Rattle.limits.specs.Answer.{number_of};
 ghost use Rattle.limits.specs.Questions.{first_no};
