@@ -1,5 +1,5 @@
 -- The built ends agree with the unbounded ends: every clause of the comparison.
-use Rattle.std.specs.Prelude.{ℕ, ◌+◌, ◌*◌, ◌≤◌, ◌≡◌, Bool, true, not, ◌||◌, List, ◌++◌, map, eqb, length, take, drop}
+use Rattle.std.specs.Prelude.{ℕ, ◌+◌, ◌*◌, ◌≤◌, ◌≡◌, Bool, true, not, ◌||◌, List, ◌++◌, eqb, length, take, drop}
 use Rattle.limits.specs.declared.Limits.{Limits}
 use Rattle.limits.specs.Answer.{number_of}
 use Rattle.limits.specs.Lists.{all}

@@ -3,7 +3,7 @@
 use Rattle.std.specs.Prelude.{ℕ, ◌*◌, List, [], ◌∷◌, ◌++◌, map, eqb, length, take, drop}
 use Rattle.limits.specs.Answer.{number_of}
 use Rattle.limits.specs.Lists.{joined}
-use Rattle.limits.specs.Questions.{pick, Question, first_no}
+use Rattle.limits.specs.Questions.{pick, first_no}
 use Rattle.limits.specs.Events.{Event, event, events}
 use Rattle.events.specs.declared.Link.{Link}
 use Rattle.events.specs.declared.Counts.{Counts}

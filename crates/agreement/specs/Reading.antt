@@ -1,5 +1,5 @@
 -- The unbounded ends read as the built ones: numbers modulo 2w, and of all rows those in the windows of mat and pad.
-use Rattle.std.specs.Prelude.{ℕ, ◌+◌, ◌-◌, ◌*◌, ◌%◌, List, map, leb}
+use Rattle.std.specs.Prelude.{ℕ, ◌+◌, ◌-◌, ◌*◌, ◌%◌, map, leb}
 use Rattle.limits.specs.declared.Limits.{Limits}
 use Rattle.limits.specs.Lists.{tab}
 use Rattle.limits.specs.Questions.{pick}

@@ -6,8 +6,8 @@ use Rattle.events.specs.declared.Counts.{Counts}
 use Rattle.lines.specs.Input.{readable, limits_of, supply_of, event_bytes}
 use Rattle.lines.specs.Text.{event_lines, counts_line, refused_line}
 use Rattle.ride.specs.Ride.{ride_questions, ends_of, answers_of}
-use Rattle.bytes.specs.declared.Written.{Written}
-use Rattle.bytes.specs.Buffers.{writing, WriteCall}
+use Rattle.buffers.specs.declared.Written.{Written}
+use Rattle.buffers.specs.Buffers.{writing, WriteCall}
 
 -- An output of this length has room for the text of every input: 12 bytes for two of an event, and 40 for the counts.
 abbrev pub output_length : ℕ

@@ -1,12 +1,14 @@
 // The trial as a function from its input to the text that it prints.
+#![tactic(auto)]
+
 ghost use Rattle.std.specs.Prelude.{◌≡◌, true, ◌≤◌, ◌++◌, length};
 ghost use Rattle.limits.specs.Answer.{number_of};
 ghost use Rattle.lines.specs.Input.{readable};
-ghost use Rattle.bytes.specs.Buffers.{Wrote};
+ghost use Rattle.buffers.specs.Buffers.{Wrote};
 ghost use Rattle.lines.specs.Text.{event_lines, counts_line, refused_line};
 ghost use Rattle.report.specs.Report.{output_length, no_answers, text_of, Room, Reports};
 
-use bytes::Written;
+use buffers::Written;
 use events::Counts;
 use limits::answer::Answer;
 
@@ -97,6 +99,6 @@ pub fn report(input: &[u8], output: &mut [u8]) -> Written
             count,
         }
     } else {
-        bytes::not_written(Answer::ShortBuffer)
+        buffers::not_written(Answer::ShortBuffer)
     }
 }

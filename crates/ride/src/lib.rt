@@ -1,4 +1,6 @@
 // A link opened and run from fresh on lent slices, promised against the unbounded ends.
+#![tactic(auto)]
+
 ghost use Rattle.std.specs.Prelude.{◌≡◌};
 ghost use Rattle.ride.specs.Ride.{Rode};
 
@@ -6,7 +8,7 @@ use events::Counts;
 use limits::Limits;
 use limits::answer::Answer;
 
-#[derive(Drop)]
+#[derive(Clone, Copy)]
 pub struct Outcome {
     pub answer: Answer,
     pub counts: Counts,

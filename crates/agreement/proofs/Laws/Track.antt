@@ -159,10 +159,13 @@ module _ (l : Limits) (g : Good l) (supply first : List ℕ) where
       → Track l supply first (runs.after_all supply y es) (lists.after_all l supply (length first) s es)
   unfolding runs.after_all lists.after_all
   track-all y s [] t = t
-  track-all y s (e ∷ es) t = track-all _ _ es (track-next l supply first y s t g e)
+  track-all y s (e ∷ es) t =
+      track-all (runs.next supply y e) (unbounded.after l supply (length first) s e) es (track-next l supply first y s t g e)
 
   pub same-answers : (y : Moved) (s : Ends) (es : List Event) → Track l supply first y s
       → runs.answers supply y es ≡ lists.answers l supply (length first) s es
   unfolding runs.answers lists.answers
   same-answers y s [] t = refl
-  same-answers y s (e ∷ es) t = ap₂ ◌∷◌ (answer-same l supply first y s t g e) (same-answers _ _ es (track-next l supply first y s t g e))
+  same-answers y s (e ∷ es) t =
+      ap₂ ◌∷◌ (answer-same l supply first y s t g e)
+      (same-answers (runs.next supply y e) (unbounded.after l supply (length first) s e) es (track-next l supply first y s t g e))

@@ -1,6 +1,6 @@
 -- What is free in a table.
 use Prim.Native.Nat.{ℕ, zero, suc, ◌+◌, ◌-◌, ◌*◌, ◌/◌, ◌%◌, ◌≤◌, ◌<◌}
-use mathlib.Core.Path.{◌≡◌, refl, sym, ◌∙◌, ap}
+use mathlib.Core.Path.{◌≡◌, sym, ◌∙◌, ap}
 use mathlib.Core.List.{List, map}
 use native.Mathlib.Nat.{mod-lt, div-add-mod, mul-div-le, lt_of_mul-lt-mul_left}
 use native.Mathlib.Omega.{arith}

@@ -4,8 +4,8 @@ use mathlib.Core.Path.{◌≡◌, refl, ap}
 use mathlib.Core.List.{List, [], ◌∷◌, ◌++◌}
 use native.Mathlib.Omega.{arith}
 use lib.ListN.{length, length-append}
-use Rattle.bytes.specs.Buffers.{Wrote}
-use Rattle.bytes.proofs.Laws.Buffers.{both-wrote, same-wrote}
+use Rattle.buffers.specs.Buffers.{Wrote}
+use Rattle.buffers.proofs.Laws.Buffers.{both-wrote, same-wrote}
 use Rattle.lines.specs.Text.{event_line, event_lines, counts_line}
 use Rattle.lines.proofs.Laws.Lines.{line-most}
 

@@ -1,5 +1,5 @@
 -- From the contract of the ride to the text of the trial.
-use Prim.Native.Nat.{ℕ, ◌+◌, ◌-◌, ◌*◌, ◌/◌, ◌≤◌, ◌<◌}
+use Prim.Native.Nat.{ℕ, ◌-◌, ◌*◌, ◌/◌, ◌≤◌, ◌<◌}
 use mathlib.Core.Path.{◌≡◌, refl, sym, ◌∙◌, ap, ap₂}
 use mathlib.Core.Bool.{true, false}
 use mathlib.Core.List.{List, ◌++◌}
@@ -18,14 +18,14 @@ use Rattle.limits.proofs.Laws.Lists.{length-tab}
 use Rattle.limits.proofs.Laws.Promise.{none-no, done-of, answers-done, answers-refused}
 use Rattle.unbounded.specs.Ends.{Ends}
 use Rattle.lines.specs.Input.{row_count, event_start, most_input, readable, limits_of, supply_of, cell_at, event_bytes}
-use Rattle.bytes.specs.Buffers.{Wrote, Writing, writing}
-use Rattle.bytes.proofs.Laws.Buffers.{wrote-front}
+use Rattle.buffers.specs.Buffers.{Wrote, Writing, writing}
+use Rattle.buffers.proofs.Laws.Buffers.{wrote-front}
 use Rattle.lines.specs.Text.{event_lines, counts_line, refused_line}
 use Rattle.lines.proofs.Laws.Input.{supply-front}
 use Rattle.ride.specs.declared.Outcome.{Outcome}
 use Rattle.ride.specs.Ride.{ride_questions, ends_of, answers_of, Riding, riding, Rode}
 use Rattle.ride.proofs.Laws.Bounds.{Bounded, bounded, answer-count}
-use Rattle.bytes.specs.declared.Written.{Written}
+use Rattle.buffers.specs.declared.Written.{Written}
 use Rattle.report.specs.Report.{output_length, no_answers, trial_questions, trial_ends, trial_answers, ride_text, text_of, Room, output_questions, Reports}
 use Rattle.report.proofs.Laws.Text.{lines-front}
 

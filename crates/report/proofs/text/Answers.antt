@@ -1,0 +1,10 @@
+use mathlib.Core.Path.{sym, ◌∙◌}
+use Rattle.buffers.proofs.Laws.Buffers.{same-wrote}
+use Rattle.report.proofs.Laws.Trial.{unreadable}
+use Rattle.report.proofs.text.Goals as goal
+
+pub ridden-requires : goal.ridden-requires
+ridden-requires c = (sym c.readable.ensures ∙ c.if-readable.true, c.requires)
+
+pub returns-else-readable : goal.returns-else-readable
+returns-else-readable c = same-wrote _ _ _ _ _ _ (unreadable _ (sym c.readable.ensures ∙ c.if-readable.false)) c.refused.ensures
