@@ -1,19 +1,13 @@
 // Frames for programs in C: what `cframes` does, under names for C.
 ghost use Rattle.cframes.specs.Frames.{ReadFrame, WriteFrame};
 
-#[unsafe(no_mangle)]
-pub extern "C" fn matlink_lent_read_frame(
-    frame: &[u8],
-    head: &mut [u16; 5],
-    cells: &mut [u16; 16],
-) -> u8
+pub fn matlink_lent_read_frame(frame: &[u8], head: &mut [u16; 5], cells: &mut [u16; 16]) -> u8
     ensures { ReadFrame frame.now head.old cells.old head.new cells.new result }
 {
     cframes::read(frame, head, cells)
 }
 
-#[unsafe(no_mangle)]
-pub extern "C" fn matlink_lent_write_frame(
+pub fn matlink_lent_write_frame(
     head: &[u16; 5],
     cells: &[u16; 16],
     buffer: &mut [u8],

@@ -1,5 +1,7 @@
 // The link for programs in C, which keep it as ten numbers and eight arrays and lend these to each call. What is lent changes in
 // place; of the state only the marks are copied, which are numbers in C.
+#![tactic(auto)]
+
 ghost use Rattle.std.specs.Prelude.{◌≡◌, ◌%◌};
 ghost use Rattle.clinks.specs.Links.{clink};
 ghost use Rattle.exports.specs.Calls.{capped, asked, kind_of, counts_list, OpenCall, StepCall, RunCall, RideCall};
@@ -44,8 +46,7 @@ fn counts_of(n: Counts) -> [usize; 3]
 }
 
 // Opens a link: 1, 2, 3. A refusal stores a link of zeros.
-#[unsafe(no_mangle)]
-pub extern "C" fn matlink_lent_open(
+pub fn matlink_lent_open(
     head: &mut [u16; 10],
     matmark: &mut [u16; 32],
     mattimer: &mut [u16; 32],
@@ -105,8 +106,7 @@ fn low_byte(x: u32) -> u8
 }
 
 // One event: 4, 6, then the event's questions. The counts are written always, the link where the answer is 0.
-#[unsafe(no_mangle)]
-pub extern "C" fn matlink_lent_step(
+pub fn matlink_lent_step(
     head: &mut [u16; 10],
     matmark: &mut [u16; 32],
     mattimer: &mut [u16; 32],
@@ -162,8 +162,7 @@ pub extern "C" fn matlink_lent_step(
 }
 
 // A run: 4, 5, 6, 7. The counts are written always, the link where the answer is 0.
-#[unsafe(no_mangle)]
-pub extern "C" fn matlink_lent_run(
+pub fn matlink_lent_run(
     head: &mut [u16; 10],
     matmark: &mut [u16; 32],
     mattimer: &mut [u16; 32],
@@ -219,8 +218,7 @@ pub extern "C" fn matlink_lent_run(
 }
 
 // A link opened and run from fresh: 1, 2, 3, 5, 6, 7. The counts are written always.
-#[unsafe(no_mangle)]
-pub extern "C" fn matlink_lent_ride(
+pub fn matlink_lent_ride(
     window: u32,
     datalife: u32,
     replylife: u32,
