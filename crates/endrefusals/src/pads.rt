@@ -1,31 +1,32 @@
 // The pad's calls.
 use limits::Limits;
 use pad::Pad;
+use std::io;
 use tries::line;
 
 // At a pad that holds nothing.
-fn arrive(what: &[u8], l: Limits, number: usize, cell: u16) {
+fn arrive(rt: &impl Print, what: &[u8], l: Limits, number: usize, cell: u16) -> io::Result<()> {
     let r = pad::arrive(l, pad::fresh(), number, [cell; 16]);
     let answer = r.answer;
-    line(what, answer);
+    line(rt, what, answer)
 }
 
-fn run_length(what: &[u8], l: Limits, p: Pad) {
+fn run_length(rt: &impl Print, what: &[u8], l: Limits, p: Pad) -> io::Result<()> {
     let r = pad::run_length(l, p);
     let answer = r.answer;
-    line(what, answer);
+    line(rt, what, answer)
 }
 
-fn reply(what: &[u8], l: Limits, p: Pad, record: &mut [u16]) {
+fn reply(rt: &impl Print, what: &[u8], l: Limits, p: Pad, record: &mut [u16]) -> io::Result<()> {
     let r = pad::reply(l, p, record);
     let answer = r.answer;
-    line(what, answer);
+    line(rt, what, answer)
 }
 
-fn tick(what: &[u8], l: Limits, p: Pad, d: u16) {
+fn tick(rt: &impl Print, what: &[u8], l: Limits, p: Pad, d: u16) -> io::Result<()> {
     let r = pad::tick(l, p, d);
     let answer = r.answer;
-    line(what, answer);
+    line(rt, what, answer)
 }
 
 // A pad that holds rows 0 and 1. Every timer is 1 and every cell 5.
@@ -38,47 +39,53 @@ fn two() -> Pad {
     p
 }
 
-fn unsound() {
+fn unsound(rt: &impl Print) -> io::Result<()> {
     let l = tries::of(2, 1, 4);
     let mut record = [0u16; 32];
-    arrive(b"pad data, w 33", tries::of(33, 1, 4), 0, 5);
-    arrive(b"pad data, wait 0", tries::of(2, 1, 0), 0, 5);
-    arrive(b"pad data, number 2w", l, 4, 5);
-    arrive(b"pad data, number largest", l, 18446744073709551615, 5);
-    arrive(b"pad data, cell 4096", l, 0, 4096);
+    arrive(rt, b"pad data, w 33", tries::of(33, 1, 4), 0, 5)?;
+    arrive(rt, b"pad data, wait 0", tries::of(2, 1, 0), 0, 5)?;
+    arrive(rt, b"pad data, number 2w", l, 4, 5)?;
+    arrive(rt, b"pad data, number largest", l, 18446744073709551615, 5)?;
+    arrive(rt, b"pad data, cell 4096", l, 0, 4096)?;
     let mut p = pad::fresh();
     p.wanted = 4;
-    reply(b"pad reply, wanted 2w", l, p, &mut record);
+    reply(rt, b"pad reply, wanted 2w", l, p, &mut record)?;
     p = pad::fresh();
     p.timers[1] = 2;
-    tick(b"pad tick, timer above its wait", l, p, 1);
+    tick(rt, b"pad tick, timer above its wait", l, p, 1)?;
     p = two();
     p.cells[0] = 4096;
-    run_length(b"pad run, held cell 4096", l, p);
-    reply(b"pad reply, held cell 4096", l, p, &mut record);
-    run_length(b"pad run, w 0", tries::of(0, 1, 4), pad::fresh());
+    run_length(rt, b"pad run, held cell 4096", l, p)?;
+    reply(rt, b"pad reply, held cell 4096", l, p, &mut record)?;
+    run_length(rt, b"pad run, w 0", tries::of(0, 1, 4), pad::fresh())
 }
 
-fn refused() {
+fn refused(rt: &impl Print) -> io::Result<()> {
     let l = tries::of(2, 1, 4);
     let mut record = [0u16; 32];
     let mut short = [0u16; 31];
     let mut empty = [0u16; 1];
     let none = pad::fresh();
     let both = two();
-    arrive(b"pad data, new row", l, 1, 5);
-    arrive(b"pad data, old row", l, 2, 5);
-    run_length(b"pad run, nothing held", l, none);
-    run_length(b"pad run, two rows", l, both);
-    reply(b"pad reply, nothing held", l, none, &mut record);
-    reply(b"pad reply, empty record", l, both, &mut empty[0..0]);
-    reply(b"pad reply, 32 cells for two rows", l, both, &mut record);
-    reply(b"pad reply, 31 cells for two rows", l, both, &mut short);
-    tick(b"pad tick 0", l, none, 0);
-    tick(b"pad tick 65535", l, both, 65535);
+    arrive(rt, b"pad data, new row", l, 1, 5)?;
+    arrive(rt, b"pad data, old row", l, 2, 5)?;
+    run_length(rt, b"pad run, nothing held", l, none)?;
+    run_length(rt, b"pad run, two rows", l, both)?;
+    reply(rt, b"pad reply, nothing held", l, none, &mut record)?;
+    reply(rt, b"pad reply, empty record", l, both, &mut empty[0..0])?;
+    reply(
+        rt,
+        b"pad reply, 32 cells for two rows",
+        l,
+        both,
+        &mut record,
+    )?;
+    reply(rt, b"pad reply, 31 cells for two rows", l, both, &mut short)?;
+    tick(rt, b"pad tick 0", l, none, 0)?;
+    tick(rt, b"pad tick 65535", l, both, 65535)
 }
 
-pub fn tries() {
-    unsound();
-    refused();
+pub fn tries(rt: &impl Print) -> io::Result<()> {
+    unsound(rt)?;
+    refused(rt)
 }

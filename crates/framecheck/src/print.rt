@@ -1,29 +1,30 @@
 // Numbers, each behind the one before, and the end of a line.
-use libc::STDOUT_FILENO;
+use std::io;
 
-pub fn number(n: u64) {
-    io::print_decimal(STDOUT_FILENO, n);
-    io::write_all(STDOUT_FILENO, b" ");
+pub fn number(rt: &impl Print, n: u64) -> io::Result<()> {
+    print!(rt; "{n} ")
 }
 
-pub fn cells(row: &[u16]) {
+pub fn cells(rt: &impl Print, row: &[u16]) -> io::Result<()> {
     let mut i = 0;
     while i < row.len() {
         let cell = row[i];
-        number(cell as u64);
+        number(rt, cell as u64)?;
         i += 1;
     }
+    Ok(())
 }
 
-pub fn bytes(buffer: &[u8]) {
+pub fn bytes(rt: &impl Print, buffer: &[u8]) -> io::Result<()> {
     let mut i = 0;
     while i < buffer.len() {
         let byte = buffer[i];
-        number(byte as u64);
+        number(rt, byte as u64)?;
         i += 1;
     }
+    Ok(())
 }
 
-pub fn end() {
-    io::write_all(STDOUT_FILENO, b"\n");
+pub fn end(rt: &impl Print) -> io::Result<()> {
+    rt.write_all(b"\n")
 }

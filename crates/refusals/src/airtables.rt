@@ -4,10 +4,19 @@ use air::messages::{DataMessage, ReplyMessage};
 use air::replytable::ReplyTable;
 use air::{datatable, replytable};
 use limits::Limits;
+use std::io;
 use tries::line;
 
 // Each call is tried on a table of `count` messages.
-fn put_data(what: &[u8], l: Limits, count: usize, number: u16, life: u16, cell: u16) {
+fn put_data(
+    rt: &impl Print,
+    what: &[u8],
+    l: Limits,
+    count: usize,
+    number: u16,
+    life: u16,
+    cell: u16,
+) -> io::Result<()> {
     let r = datatable::put(
         l,
         data_of(count),
@@ -18,25 +27,25 @@ fn put_data(what: &[u8], l: Limits, count: usize, number: u16, life: u16, cell: 
         },
     );
     let answer = r.answer;
-    line(what, answer);
+    line(rt, what, answer)
 }
 
-fn remove_data(what: &[u8], l: Limits, count: usize, p: usize) {
+fn remove_data(rt: &impl Print, what: &[u8], l: Limits, count: usize, p: usize) -> io::Result<()> {
     let r = datatable::remove(l, data_of(count), p);
     let answer = r.answer;
-    line(what, answer);
+    line(rt, what, answer)
 }
 
-fn read_data(what: &[u8], l: Limits, count: usize, p: usize) {
+fn read_data(rt: &impl Print, what: &[u8], l: Limits, count: usize, p: usize) -> io::Result<()> {
     let r = datatable::read(l, data_of(count), p);
     let answer = r.answer;
-    line(what, answer);
+    line(rt, what, answer)
 }
 
-fn tick_data(what: &[u8], l: Limits, count: usize, d: u16) {
+fn tick_data(rt: &impl Print, what: &[u8], l: Limits, count: usize, d: u16) -> io::Result<()> {
     let r = datatable::tick(l, data_of(count), d);
     let answer = r.answer;
-    line(what, answer);
+    line(rt, what, answer)
 }
 
 // A data table of `count` messages. Each word is 1: the life, the number and the cells.
@@ -45,69 +54,83 @@ fn data_of(count: usize) -> DataTable {
 }
 
 // Tables whose one message has a life of 0, the number 4 or a cell of 4096.
-fn data_unsound() {
+fn data_unsound(rt: &impl Print) -> io::Result<()> {
     let l = tries::of(2, 1, 4);
     let mut t = data_of(1);
     t.words[0] = 0;
     let removed = datatable::remove(l, t, 0);
     let mut answer = removed.answer;
-    line(b"data remove, life 0 in the table", answer);
+    line(rt, b"data remove, life 0 in the table", answer)?;
     t = data_of(1);
     t.words[1] = 4;
     let ticked = datatable::tick(l, t, 1);
     answer = ticked.answer;
-    line(b"data tick, number 2w in the table", answer);
+    line(rt, b"data tick, number 2w in the table", answer)?;
     t = data_of(1);
     t.words[17] = 4096;
     let read = datatable::read(l, t, 0);
     answer = read.answer;
-    line(b"data read, cell 4096 in the table", answer);
+    line(rt, b"data read, cell 4096 in the table", answer)
 }
 
-pub fn data_tries() {
+pub fn data_tries(rt: &impl Print) -> io::Result<()> {
     let l = tries::of(2, 1, 4);
-    put_data(b"data put, w 0", tries::of(0, 1, 4), 0, 0, 1, 5);
-    put_data(b"data put, number 2w", l, 0, 4, 1, 5);
-    put_data(b"data put, life 0", l, 0, 0, 0, 5);
-    put_data(b"data put, life 2 of 1", l, 0, 0, 2, 5);
-    put_data(b"data put, cell 4096", l, 0, 0, 1, 4096);
-    put_data(b"data put, 31 messages", l, 31, 0, 1, 5);
-    put_data(b"data put, 32 messages", l, 32, 0, 1, 5);
-    put_data(b"data put, count 33", l, 33, 0, 1, 5);
-    remove_data(b"data remove, count largest", l, 18446744073709551615, 0);
-    remove_data(b"data remove, p at the count", l, 3, 3);
-    remove_data(b"data remove, p largest", l, 3, 18446744073709551615);
-    remove_data(b"data remove, last message", l, 3, 2);
-    read_data(b"data read, empty table", l, 0, 0);
-    read_data(b"data read, wait 3", tries::of(2, 1, 3), 1, 0);
-    tick_data(b"data tick 0", l, 3, 0);
-    tick_data(b"data tick 65535", l, 32, 65535);
-    data_unsound();
+    put_data(rt, b"data put, w 0", tries::of(0, 1, 4), 0, 0, 1, 5)?;
+    put_data(rt, b"data put, number 2w", l, 0, 4, 1, 5)?;
+    put_data(rt, b"data put, life 0", l, 0, 0, 0, 5)?;
+    put_data(rt, b"data put, life 2 of 1", l, 0, 0, 2, 5)?;
+    put_data(rt, b"data put, cell 4096", l, 0, 0, 1, 4096)?;
+    put_data(rt, b"data put, 31 messages", l, 31, 0, 1, 5)?;
+    put_data(rt, b"data put, 32 messages", l, 32, 0, 1, 5)?;
+    put_data(rt, b"data put, count 33", l, 33, 0, 1, 5)?;
+    remove_data(
+        rt,
+        b"data remove, count largest",
+        l,
+        18446744073709551615,
+        0,
+    )?;
+    remove_data(rt, b"data remove, p at the count", l, 3, 3)?;
+    remove_data(rt, b"data remove, p largest", l, 3, 18446744073709551615)?;
+    remove_data(rt, b"data remove, last message", l, 3, 2)?;
+    read_data(rt, b"data read, empty table", l, 0, 0)?;
+    read_data(rt, b"data read, wait 3", tries::of(2, 1, 3), 1, 0)?;
+    tick_data(rt, b"data tick 0", l, 3, 0)?;
+    tick_data(rt, b"data tick 65535", l, 32, 65535)?;
+    data_unsound(rt)
 }
 
 // Each call is tried on a table of `count` messages.
-fn put_reply(what: &[u8], l: Limits, count: usize, first: u16, last: u16, life: u16) {
+fn put_reply(
+    rt: &impl Print,
+    what: &[u8],
+    l: Limits,
+    count: usize,
+    first: u16,
+    last: u16,
+    life: u16,
+) -> io::Result<()> {
     let r = replytable::put(l, replies_of(count), ReplyMessage { first, last, life });
     let answer = r.answer;
-    line(what, answer);
+    line(rt, what, answer)
 }
 
-fn remove_reply(what: &[u8], l: Limits, count: usize, p: usize) {
+fn remove_reply(rt: &impl Print, what: &[u8], l: Limits, count: usize, p: usize) -> io::Result<()> {
     let r = replytable::remove(l, replies_of(count), p);
     let answer = r.answer;
-    line(what, answer);
+    line(rt, what, answer)
 }
 
-fn read_reply(what: &[u8], l: Limits, count: usize, p: usize) {
+fn read_reply(rt: &impl Print, what: &[u8], l: Limits, count: usize, p: usize) -> io::Result<()> {
     let r = replytable::read(l, replies_of(count), p);
     let answer = r.answer;
-    line(what, answer);
+    line(rt, what, answer)
 }
 
-fn tick_reply(what: &[u8], l: Limits, count: usize, d: u16) {
+fn tick_reply(rt: &impl Print, what: &[u8], l: Limits, count: usize, d: u16) -> io::Result<()> {
     let r = replytable::tick(l, replies_of(count), d);
     let answer = r.answer;
-    line(what, answer);
+    line(rt, what, answer)
 }
 
 // A reply table of `count` messages. Each word is 1: the life, the first and the last number.
@@ -116,41 +139,47 @@ fn replies_of(count: usize) -> ReplyTable {
 }
 
 // Tables whose one message has a life of 0, the first number 4 or the last number 3.
-fn replies_unsound() {
+fn replies_unsound(rt: &impl Print) -> io::Result<()> {
     let l = tries::of(2, 1, 4);
     let mut t = replies_of(1);
     t.words[0] = 0;
     let removed = replytable::remove(l, t, 0);
     let mut answer = removed.answer;
-    line(b"reply remove, life 0 in the table", answer);
+    line(rt, b"reply remove, life 0 in the table", answer)?;
     t = replies_of(1);
     t.words[1] = 4;
     let ticked = replytable::tick(l, t, 1);
     answer = ticked.answer;
-    line(b"reply tick, number 2w in the table", answer);
+    line(rt, b"reply tick, number 2w in the table", answer)?;
     t = replies_of(1);
     t.words[2] = 3;
     let read = replytable::read(l, t, 0);
     answer = read.answer;
-    line(b"reply read, span 3 of 2 in the table", answer);
+    line(rt, b"reply read, span 3 of 2 in the table", answer)
 }
 
-pub fn reply_tries() {
+pub fn reply_tries(rt: &impl Print) -> io::Result<()> {
     let l = tries::of(2, 1, 4);
-    put_reply(b"reply put, w 33", tries::of(33, 1, 4), 0, 0, 0, 1);
-    put_reply(b"reply put, last 2w", l, 0, 0, 4, 1);
-    put_reply(b"reply put, span 3 of 2", l, 0, 3, 1, 1);
-    put_reply(b"reply put, life 0", l, 0, 0, 0, 0);
-    put_reply(b"reply put, span over the ring's end", l, 0, 3, 0, 1);
-    put_reply(b"reply put, 31 messages", l, 31, 0, 0, 1);
-    put_reply(b"reply put, 32 messages", l, 32, 0, 0, 1);
-    put_reply(b"reply put, count 33", l, 33, 0, 0, 1);
-    remove_reply(b"reply remove, count largest", l, 18446744073709551615, 0);
-    remove_reply(b"reply remove, p at the count", l, 3, 3);
-    remove_reply(b"reply remove, last message", l, 3, 2);
-    read_reply(b"reply read, empty table", l, 0, 0);
-    read_reply(b"reply read, times 0", tries::of(2, 0, 4), 1, 0);
-    tick_reply(b"reply tick 0", l, 3, 0);
-    tick_reply(b"reply tick 65535", l, 32, 65535);
-    replies_unsound();
+    put_reply(rt, b"reply put, w 33", tries::of(33, 1, 4), 0, 0, 0, 1)?;
+    put_reply(rt, b"reply put, last 2w", l, 0, 0, 4, 1)?;
+    put_reply(rt, b"reply put, span 3 of 2", l, 0, 3, 1, 1)?;
+    put_reply(rt, b"reply put, life 0", l, 0, 0, 0, 0)?;
+    put_reply(rt, b"reply put, span over the ring's end", l, 0, 3, 0, 1)?;
+    put_reply(rt, b"reply put, 31 messages", l, 31, 0, 0, 1)?;
+    put_reply(rt, b"reply put, 32 messages", l, 32, 0, 0, 1)?;
+    put_reply(rt, b"reply put, count 33", l, 33, 0, 0, 1)?;
+    remove_reply(
+        rt,
+        b"reply remove, count largest",
+        l,
+        18446744073709551615,
+        0,
+    )?;
+    remove_reply(rt, b"reply remove, p at the count", l, 3, 3)?;
+    remove_reply(rt, b"reply remove, last message", l, 3, 2)?;
+    read_reply(rt, b"reply read, empty table", l, 0, 0)?;
+    read_reply(rt, b"reply read, times 0", tries::of(2, 0, 4), 1, 0)?;
+    tick_reply(rt, b"reply tick 0", l, 3, 0)?;
+    tick_reply(rt, b"reply tick 65535", l, 32, 65535)?;
+    replies_unsound(rt)
 }

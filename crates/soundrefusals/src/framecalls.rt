@@ -1,14 +1,23 @@
 // The reader and the writers of frames.
 use frames::{DataFrame, ReplyFrame};
+use std::io;
 use tries::line;
 
-fn read(what: &[u8], bytes: &[u8]) {
+fn read(rt: &impl Print, what: &[u8], bytes: &[u8]) -> io::Result<()> {
     let r = frames::read(bytes);
     let answer = r.answer;
-    line(what, answer);
+    line(rt, what, answer)
 }
 
-fn write_data(what: &[u8], life: u16, window: usize, number: usize, cell: u16, buffer: &mut [u8]) {
+fn write_data(
+    rt: &impl Print,
+    what: &[u8],
+    life: u16,
+    window: usize,
+    number: usize,
+    cell: u16,
+    buffer: &mut [u8],
+) -> io::Result<()> {
     let row = [cell; 16];
     let f = DataFrame {
         life,
@@ -18,10 +27,17 @@ fn write_data(what: &[u8], life: u16, window: usize, number: usize, cell: u16, b
     };
     let r = frames::write_data(f, buffer);
     let answer = r.answer;
-    line(what, answer);
+    line(rt, what, answer)
 }
 
-fn write_reply(what: &[u8], window: usize, first: usize, last: usize, buffer: &mut [u8]) {
+fn write_reply(
+    rt: &impl Print,
+    what: &[u8],
+    window: usize,
+    first: usize,
+    last: usize,
+    buffer: &mut [u8],
+) -> io::Result<()> {
     let f = ReplyFrame {
         life: 1,
         window,
@@ -30,42 +46,43 @@ fn write_reply(what: &[u8], window: usize, first: usize, last: usize, buffer: &m
     };
     let r = frames::write_reply(f, buffer);
     let answer = r.answer;
-    line(what, answer);
+    line(rt, what, answer)
 }
 
-fn read_tries() {
-    read(b"read, no byte", b"");
-    read(b"read, first byte 3", b"\x03\x01\x02\x00\x00");
-    read(b"read, 4 bytes of a reply", b"\x02\x01\x02\x00");
-    read(b"read, w 33", b"\x02\x01\x21\x00\x00");
-    read(b"read, last 2w", b"\x02\x01\x02\x00\x04");
-    read(b"read, life 251", b"\x02\xfb\x02\x00\x00");
-    read(b"read, span 3 of 2", b"\x02\x01\x02\x00\x02");
-    read(b"read, a reply", b"\x02\x01\x02\x03\x00");
+fn read_tries(rt: &impl Print) -> io::Result<()> {
+    read(rt, b"read, no byte", b"")?;
+    read(rt, b"read, first byte 3", b"\x03\x01\x02\x00\x00")?;
+    read(rt, b"read, 4 bytes of a reply", b"\x02\x01\x02\x00")?;
+    read(rt, b"read, w 33", b"\x02\x01\x21\x00\x00")?;
+    read(rt, b"read, last 2w", b"\x02\x01\x02\x00\x04")?;
+    read(rt, b"read, life 251", b"\x02\xfb\x02\x00\x00")?;
+    read(rt, b"read, span 3 of 2", b"\x02\x01\x02\x00\x02")?;
+    read(rt, b"read, a reply", b"\x02\x01\x02\x03\x00")
 }
 
-fn write_tries() {
+fn write_tries(rt: &impl Print) -> io::Result<()> {
     let mut space = [0u8; 36];
     let mut short = [0u8; 4];
-    write_data(b"write data", 250, 32, 63, 4095, &mut space);
+    write_data(rt, b"write data", 250, 32, 63, 4095, &mut space)?;
     write_data(
+        rt,
         b"write data, w largest",
         1,
         18446744073709551615,
         0,
         5,
         &mut space,
-    );
-    write_data(b"write data, number 2w", 1, 2, 4, 5, &mut space);
-    write_data(b"write data, life 0", 0, 2, 0, 5, &mut space);
-    write_data(b"write data, cell 4096", 1, 2, 0, 4096, &mut space);
-    write_data(b"write data, buffer of 4", 1, 2, 0, 5, &mut short);
-    write_reply(b"write reply", 2, 3, 0, &mut space);
-    write_reply(b"write reply, span 3 of 2", 2, 0, 2, &mut space);
-    write_reply(b"write reply, buffer of 4", 2, 0, 0, &mut short);
+    )?;
+    write_data(rt, b"write data, number 2w", 1, 2, 4, 5, &mut space)?;
+    write_data(rt, b"write data, life 0", 0, 2, 0, 5, &mut space)?;
+    write_data(rt, b"write data, cell 4096", 1, 2, 0, 4096, &mut space)?;
+    write_data(rt, b"write data, buffer of 4", 1, 2, 0, 5, &mut short)?;
+    write_reply(rt, b"write reply", 2, 3, 0, &mut space)?;
+    write_reply(rt, b"write reply, span 3 of 2", 2, 0, 2, &mut space)?;
+    write_reply(rt, b"write reply, buffer of 4", 2, 0, 0, &mut short)
 }
 
-pub fn tries() {
-    read_tries();
-    write_tries();
+pub fn tries(rt: &impl Print) -> io::Result<()> {
+    read_tries(rt)?;
+    write_tries(rt)
 }

@@ -1,7 +1,13 @@
 // The trial: reads standard input and prints what a link makes of it. `report` says what that is.
+#![tactic(auto)]
+
 ghost use Rattle.std.specs.Prelude.{◌≡◌, length};
 
-use libc::{STDIN_FILENO, STDOUT_FILENO};
+use std::io;
+use std::io::Read;
+
+// The longest input that is accepted.
+const LONGEST: u64 = 40960;
 
 // As long as `report` asks for.
 fn blank() -> [u8; 245760]
@@ -10,12 +16,12 @@ fn blank() -> [u8; 245760]
     [0; 245760]
 }
 
-// The buffer is longer than the longest input that is accepted, so that a longer one is noticed.
-fn main() {
-    let mut input = io::large_buffer();
-    let n = io::read_full(STDIN_FILENO, &mut input);
+// One byte more is read than the longest input that is accepted, so that a longer one is noticed.
+fn main(rt: HostRuntime) -> io::Result<()> {
+    let mut input = Vec::new(rt.alloc());
+    rt.stdin().take(LONGEST + 1).read_to_end(&mut input)?;
     let mut output = blank();
-    let r = report::report(&input[..n], &mut output);
+    let r = report::report(input.as_slice(), &mut output);
     let count = r.count;
-    io::write_all(STDOUT_FILENO, &output[..count]);
+    rt.write_all(&output[..count])
 }

@@ -1,9 +1,11 @@
 // What the programs share that try bad input: limits to hand in, and one line of output.
+#![tactic(auto)]
+
 ghost use Rattle.std.specs.Prelude.{◌≡◌};
 
-use libc::STDOUT_FILENO;
 use limits::Limits;
 use limits::answer::Answer;
+use std::io;
 
 pub fn of(window: usize, time: u16, wait: u16) -> Limits
     ensures { result ≡ record { window = window; datalife = time; replylife = time; replywait = time; resendwait = wait } }
@@ -17,9 +19,8 @@ pub fn of(window: usize, time: u16, wait: u16) -> Limits
     }
 }
 
-pub fn line(what: &[u8], answer: Answer) {
-    io::write_all(STDOUT_FILENO, what);
-    io::write_all(STDOUT_FILENO, b" ");
-    io::print_decimal(STDOUT_FILENO, limits::answer::number(answer) as u64);
-    io::write_all(STDOUT_FILENO, b"\n");
+pub fn line(rt: &impl Print, what: &[u8], answer: Answer) -> io::Result<()> {
+    let number = limits::answer::number(answer);
+    rt.write_all(what)?;
+    println!(rt; " {number}")
 }
