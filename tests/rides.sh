@@ -5,7 +5,7 @@ set -euo pipefail
 shopt -s lastpipe # so that `failed` is set where `prints` ends a pipeline
 here=target/rides
 mkdir -p "$here"
-rt check trial >"$here/log" 2>&1 || { tail -n 20 "$here/log"; exit 1; }
+tools/program trial >"$here/log" 2>&1 || { tail -n 20 "$here/log"; exit 1; }
 c/library >"$here/log" 2>&1 || { tail -n 20 "$here/log"; exit 1; }
 rustc --edition 2021 -O -D warnings -L native=target/staticlib -o "$here/ride" rides/ride.rs
 failed=0
@@ -140,7 +140,7 @@ asks 2 "$here/silent printed something else than answers:" "$here/ride" --trial 
 # The first build says what it does, and why it failed. Commands that build nothing stand in for rt and rustc.
 fresh=$PWD/$here/fresh
 rm -rf "$fresh"
-mkdir -p "$fresh/bin" "$fresh/crates" "$fresh/c"
+mkdir -p "$fresh/bin" "$fresh/crates/exports_c" "$fresh/c"
 cp -r rides "$fresh/rides"
 cp c/library "$fresh/c" && touch "$fresh/crates.txt"
 says='rides/ride: builds the library and checks its proofs, which takes some minutes the first time (output: target/rides/log)'
@@ -148,7 +148,7 @@ printf '#!/bin/sh\necho refused; exit 1\n' >"$fresh/bin/rt"
 printf '#!/bin/sh\ncp ../ride target/rides/ride\n' >"$fresh/bin/rustc"
 chmod +x "$fresh/bin/rt" "$fresh/bin/rustc"
 asks 2 "$(lines "$says" refused 'rides/ride: failed: c/library')" env PATH="$fresh/bin:$PATH" "$fresh/rides/ride" rides/quiet.ride
-printf '#!/bin/sh\nmkdir -p target/staticlib && echo >target/staticlib/libexports.a\n' >"$fresh/bin/rt"
+printf '#!/bin/sh\nmkdir -p out && echo >out/libexports_c.a\n' >"$fresh/bin/rt"
 asks 0 "$(lines "$says" 'rides/ride: builds the program, which takes some seconds (output: target/rides/rustc.log)')" \
     env PATH="$fresh/bin:$PATH" "$fresh/rides/ride" rides/quiet.ride
 cmp rides/quiet.out "$here/out" || fails 'the first build: prints something else'

@@ -3,7 +3,7 @@
 set -euo pipefail
 shopt -s lastpipe # so that `failed` is set in this shell
 mkdir -p target
-rt check trial >target/trial.log 2>&1 || { tail -n 20 target/trial.log; exit 1; }
+tools/program trial >target/trial.log 2>&1 || { tail -n 20 target/trial.log; exit 1; }
 failed=0
 
 # holds NAME EXPECTED: the program, given standard input, prints the line or lines EXPECTED and nothing else

@@ -5,7 +5,7 @@
 set -euo pipefail
 cd "$(dirname "$0")/../.."
 mkdir -p target
-rt check trial >target/differential.log 2>&1 || { tail -n 20 target/differential.log; exit 1; }
+tools/program trial >target/differential.log 2>&1 || { tail -n 20 target/differential.log; exit 1; }
 c/library >target/differential.log 2>&1 || { tail -n 20 target/differential.log; exit 1; }
 bash second/cargo.sh build --bins
 events=${1:-100000000} seed=${2:-1000000} start=$SECONDS

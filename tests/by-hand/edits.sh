@@ -5,7 +5,7 @@ set -euo pipefail
 cd "$(dirname "$0")/../.."
 copy=$(mktemp -d)
 trap 'rm -rf "$copy"' EXIT
-git ls-files -z crates crates.txt | xargs -0 cp --parents -t "$copy"
+git ls-files -z crates crates.txt HANDLES | xargs -0 cp --parents -t "$copy"
 rm -rf "$copy"/crates/*/must-fail
 names=("$@")
 [ ${#names[@]} -gt 0 ] || names=($(ls tests/by-hand/edits))

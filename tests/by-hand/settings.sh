@@ -4,7 +4,7 @@
 set -euo pipefail
 cd "$(dirname "$0")/../.."
 mkdir -p target
-rt check trial >target/settings.log 2>&1 || { tail -n 20 target/settings.log; exit 1; }
+tools/program trial >target/settings.log 2>&1 || { tail -n 20 target/settings.log; exit 1; }
 rustc --edition 2021 -O -D warnings -o target/settings tests/by-hand/settings.rs
 target/settings target/bin/trial >target/settings.out
 failed=0
