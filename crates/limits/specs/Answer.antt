@@ -1,39 +1,42 @@
--- The numbers that the paper gives to the answers: 0 is done, any other number names the question that was answered no.
-use Rattle.std.specs.Prelude.{ℕ}
-use Rattle.limits.specs.declared.answer.Answer.{Answer}
-use Rattle.limits.specs.declared.answer.Answer.TheVariants.{Done, BadWindow, BadTimes, BadWait, Unsound, OddEvents, PartialRow, ShortAnswers, UnknownKind, BadArgument, WindowFull, NoRowLeft, IllegalCell, DataTableFull, NotOutstanding, AlreadyAcknowledged, TimerRunning, NoMessage, ReplyTableFull, SpanNotOutstanding, NothingReady, RecordFull, UnknownFrame, BadFrameLength, BadFrameWindow, BadFrameNumber, BadFrameLife, BadFrameSpan, ShortBuffer, BadInputLength, BadRecordLength, NoSuchPage, ShortPageBuffer}
+-- The numbers of the answers: 0 is done, any other number names the question that was answered no.
+use Rattle.std.specs.Prelude.{ℕ, Result, Ok, Err}
+use Rattle.limits.specs.declared.answer.Refusal.{Refusal}
+use Rattle.limits.specs.declared.answer.Refusal.TheVariants.{BadWindow, BadTimes, BadWait, Unsound, OddEvents, PartialRow, ShortAnswers, UnknownKind, BadArgument, WindowFull, NoRowLeft, IllegalCell, DataTableFull, NotOutstanding, AlreadyAcknowledged, TimerRunning, NoMessage, ReplyTableFull, SpanNotOutstanding, NothingReady, RecordFull, UnknownFrame, BadFrameLength, BadFrameWindow, BadFrameNumber, BadFrameLife, BadFrameSpan, ShortBuffer, BadInputLength, BadRecordLength, NoSuchPage, ShortPageBuffer}
 
-abbrev pub number_of : Answer → ℕ
-number_of Done = 0
-number_of BadWindow = 1
-number_of BadTimes = 2
-number_of BadWait = 3
-number_of Unsound = 4
-number_of OddEvents = 5
-number_of PartialRow = 6
-number_of ShortAnswers = 7
-number_of UnknownKind = 8
-number_of BadArgument = 9
-number_of WindowFull = 10
-number_of NoRowLeft = 11
-number_of IllegalCell = 12
-number_of DataTableFull = 13
-number_of NotOutstanding = 14
-number_of AlreadyAcknowledged = 15
-number_of TimerRunning = 16
-number_of NoMessage = 17
-number_of ReplyTableFull = 18
-number_of SpanNotOutstanding = 19
-number_of NothingReady = 20
-number_of RecordFull = 21
-number_of UnknownFrame = 22
-number_of BadFrameLength = 23
-number_of BadFrameWindow = 24
-number_of BadFrameNumber = 25
-number_of BadFrameLife = 26
-number_of BadFrameSpan = 27
-number_of ShortBuffer = 28
-number_of BadInputLength = 29
-number_of BadRecordLength = 30
-number_of NoSuchPage = 31
-number_of ShortPageBuffer = 32
+abbrev pub refusal_number : Refusal → ℕ
+refusal_number BadWindow = 1
+refusal_number BadTimes = 2
+refusal_number BadWait = 3
+refusal_number Unsound = 4
+refusal_number OddEvents = 5
+refusal_number PartialRow = 6
+refusal_number ShortAnswers = 7
+refusal_number UnknownKind = 8
+refusal_number BadArgument = 9
+refusal_number WindowFull = 10
+refusal_number NoRowLeft = 11
+refusal_number IllegalCell = 12
+refusal_number DataTableFull = 13
+refusal_number NotOutstanding = 14
+refusal_number AlreadyAcknowledged = 15
+refusal_number TimerRunning = 16
+refusal_number NoMessage = 17
+refusal_number ReplyTableFull = 18
+refusal_number SpanNotOutstanding = 19
+refusal_number NothingReady = 20
+refusal_number RecordFull = 21
+refusal_number UnknownFrame = 22
+refusal_number BadFrameLength = 23
+refusal_number BadFrameWindow = 24
+refusal_number BadFrameNumber = 25
+refusal_number BadFrameLife = 26
+refusal_number BadFrameSpan = 27
+refusal_number ShortBuffer = 28
+refusal_number BadInputLength = 29
+refusal_number BadRecordLength = 30
+refusal_number NoSuchPage = 31
+refusal_number ShortPageBuffer = 32
+
+abbrev pub number_of : {X : Type 0} → Result X Refusal → ℕ
+number_of (Ok x) = 0
+number_of (Err refusal) = refusal_number refusal

@@ -1,6 +1,6 @@
 -- Questions are put in order. The first one answered no gives the number, and 0 means done.
-use Rattle.std.specs.Prelude.{ℕ, ◌≡◌, Bool, true, false, List, [], ◌∷◌, eqb, leb}
-use Rattle.limits.specs.declared.answer.Answer.{Answer}
+use Rattle.std.specs.Prelude.{ℕ, ◌≡◌, Bool, true, false, List, [], ◌∷◌, eqb, leb, Result, IfOk}
+use Rattle.limits.specs.declared.answer.Refusal.{Refusal}
 use Rattle.limits.specs.Answer.{number_of}
 
 unfoldable pub pick : {A : Type 0} → Bool → A → A → A
@@ -17,6 +17,15 @@ ask n b = record { code = n; passes = b }
 abbrev pub first_no : List Question → ℕ
 first_no [] = 0
 first_no (q ∷ qs) = pick q.passes (first_no qs) q.code
+
+-- A call that puts `questions` answers with the first no, and with `done` where all were passed.
+pub record Answered {X : Type 0} (questions : List Question) (result : Result X Refusal) (done : X) : Type 0 where
+  pub number : number_of result ≡ first_no questions
+  pub value : IfOk result (λ x. x ≡ done)
+
+-- An answer with nothing beside it.
+abbrev pub Answer : Type 0
+Answer = Result (Unit {0}) Refusal
 
 -- A call that puts `questions` answers with the first no. What it shows is `done` where all were passed, and `refused` where one was not.
 pub record Answers {X : Type 0} (questions : List Question) (answer : Answer) (shown done refused : X) : Type 0 where

@@ -1,10 +1,10 @@
-// The answers of the whole product. Their numbers are fixed by `number_of`.
+// The answers of the whole product: a value where every question was answered yes, or why the call was refused.
 ghost use Rattle.std.specs.Prelude.{◌≡◌};
-ghost use Rattle.limits.specs.Answer.{number_of};
+ghost use Rattle.limits.specs.Answer.{refusal_number, number_of};
 
-#[derive(Clone, Copy)]
-pub enum Answer {
-    Done,
+// Why a call is refused: the first question that was answered no. Their numbers are fixed by `refusal_number`.
+#[derive(Clone, Copy, Debug, PartialEq, Eq)]
+pub enum Refusal {
     BadWindow,
     BadTimes,
     BadWait,
@@ -39,43 +39,53 @@ pub enum Answer {
     ShortPageBuffer,
 }
 
-// The number of an answer, as it is written to an answer buffer or printed.
-pub fn number(answer: Answer) -> u8
-    ensures { result ≡ number_of answer }
+impl From<Refusal> for u8 {
+    ghost from_gives = { λ refusal n. n ≡ refusal_number refusal };
+
+    fn from(refusal: Refusal) -> u8 {
+        match refusal {
+            Refusal::BadWindow => 1,
+            Refusal::BadTimes => 2,
+            Refusal::BadWait => 3,
+            Refusal::Unsound => 4,
+            Refusal::OddEvents => 5,
+            Refusal::PartialRow => 6,
+            Refusal::ShortAnswers => 7,
+            Refusal::UnknownKind => 8,
+            Refusal::BadArgument => 9,
+            Refusal::WindowFull => 10,
+            Refusal::NoRowLeft => 11,
+            Refusal::IllegalCell => 12,
+            Refusal::DataTableFull => 13,
+            Refusal::NotOutstanding => 14,
+            Refusal::AlreadyAcknowledged => 15,
+            Refusal::TimerRunning => 16,
+            Refusal::NoMessage => 17,
+            Refusal::ReplyTableFull => 18,
+            Refusal::SpanNotOutstanding => 19,
+            Refusal::NothingReady => 20,
+            Refusal::RecordFull => 21,
+            Refusal::UnknownFrame => 22,
+            Refusal::BadFrameLength => 23,
+            Refusal::BadFrameWindow => 24,
+            Refusal::BadFrameNumber => 25,
+            Refusal::BadFrameLife => 26,
+            Refusal::BadFrameSpan => 27,
+            Refusal::ShortBuffer => 28,
+            Refusal::BadInputLength => 29,
+            Refusal::BadRecordLength => 30,
+            Refusal::NoSuchPage => 31,
+            Refusal::ShortPageBuffer => 32,
+        }
+    }
+}
+
+// The number of an answer, as it is written to an answer buffer or printed: 0 is done.
+pub fn number<T>(answer: &Result<T, Refusal>) -> u8
+    ensures { result ≡ number_of answer.now }
 {
     match answer {
-        Answer::Done => 0,
-        Answer::BadWindow => 1,
-        Answer::BadTimes => 2,
-        Answer::BadWait => 3,
-        Answer::Unsound => 4,
-        Answer::OddEvents => 5,
-        Answer::PartialRow => 6,
-        Answer::ShortAnswers => 7,
-        Answer::UnknownKind => 8,
-        Answer::BadArgument => 9,
-        Answer::WindowFull => 10,
-        Answer::NoRowLeft => 11,
-        Answer::IllegalCell => 12,
-        Answer::DataTableFull => 13,
-        Answer::NotOutstanding => 14,
-        Answer::AlreadyAcknowledged => 15,
-        Answer::TimerRunning => 16,
-        Answer::NoMessage => 17,
-        Answer::ReplyTableFull => 18,
-        Answer::SpanNotOutstanding => 19,
-        Answer::NothingReady => 20,
-        Answer::RecordFull => 21,
-        Answer::UnknownFrame => 22,
-        Answer::BadFrameLength => 23,
-        Answer::BadFrameWindow => 24,
-        Answer::BadFrameNumber => 25,
-        Answer::BadFrameLife => 26,
-        Answer::BadFrameSpan => 27,
-        Answer::ShortBuffer => 28,
-        Answer::BadInputLength => 29,
-        Answer::BadRecordLength => 30,
-        Answer::NoSuchPage => 31,
-        Answer::ShortPageBuffer => 32,
+        Ok(_) => 0,
+        Err(refusal) => u8::from(*refusal),
     }
 }

@@ -1,11 +1,12 @@
 // The limits of a link and questions 1 to 3, the answers of the whole product, legal cells, and steps on the ring of numbers.
 #![tactic(auto)]
 
-ghost use Rattle.std.specs.Prelude.{◌≡◌, true};
+ghost use Rattle.std.specs.Prelude.{◌≡◌, ◌≤◌, true};
 ghost use Rattle.limits.specs.Answer.{number_of};
-ghost use Rattle.limits.specs.Questions.{Answers, first_no};
+ghost use Rattle.limits.specs.Questions.{Answered, first_no};
 ghost use Rattle.limits.specs.Limits.{
   between,
+  sum_of_times,
   window_fits,
   times_fit,
   wait_fits,
@@ -13,7 +14,6 @@ ghost use Rattle.limits.specs.Limits.{
   default_wait,
   limits_questions,
   accepted,
-  zero_limits,
   sound_limits,
 };
 
@@ -21,7 +21,7 @@ pub mod answer;
 pub mod cells;
 pub mod ring;
 
-use answer::Answer;
+use answer::Refusal;
 
 // Times are in ticks: the lives of data and replies in the air, the pad's reply wait (acknowledgment delay) and the mat's
 // resend wait (retransmission timeout).
@@ -32,12 +32,6 @@ pub struct Limits {
     pub replylife: u16,
     pub replywait: u16,
     pub resendwait: u16,
-}
-
-#[derive(Clone, Copy)]
-pub struct Accepted {
-    pub answer: Answer,
-    pub limits: Limits,
 }
 
 // Question 1 of a window, of a link or of a frame.
@@ -59,18 +53,25 @@ fn times_fit(l: Limits) -> bool
     within(1, 250, l.datalife) && (within(1, 250, l.replylife) && within(1, 250, l.replywait))
 }
 
+fn sum_of_times(l: Limits) -> u16
+    requires { times_fit l ≡ true }
+    ensures { (result ≡ sum_of_times l) × (result ≤ 750) }
+{
+    l.datalife + l.replylife + l.replywait
+}
+
 fn least_wait(l: Limits) -> u16
     requires { times_fit l ≡ true }
     ensures { result ≡ least_wait l }
 {
-    l.datalife + l.replylife + l.replywait + 1
+    sum_of_times(l) + 1
 }
 
 fn default_wait(l: Limits) -> u16
     requires { times_fit l ≡ true }
     ensures { result ≡ default_wait l }
 {
-    l.datalife + l.replylife + l.replywait + 1
+    sum_of_times(l) + 1
 }
 
 fn wait_fits(l: Limits) -> bool
@@ -80,56 +81,38 @@ fn wait_fits(l: Limits) -> bool
     l.resendwait == 0 || within(least_wait(l), 1000, l.resendwait)
 }
 
-// The first of questions 1 to 3 that is answered no.
-fn first_no(l: Limits) -> Answer
+// Questions 1 to 3.
+fn asked(l: Limits) -> Result<(), Refusal>
     ensures { number_of result ≡ first_no (limits_questions l) }
 {
-    if window_fits(l.window) {
-        if times_fit(l) {
-            if wait_fits(l) {
-                Answer::Done
-            } else {
-                Answer::BadWait
-            }
-        } else {
-            Answer::BadTimes
-        }
-    } else {
-        Answer::BadWindow
+    if !window_fits(l.window) {
+        return Err(Refusal::BadWindow);
     }
+    if !times_fit(l) {
+        return Err(Refusal::BadTimes);
+    }
+    if !wait_fits(l) {
+        return Err(Refusal::BadWait);
+    }
+    Ok(())
 }
 
-// Questions 1 to 3. A refusal gives limits of zeros.
-pub fn accept(asked: Limits) -> Accepted
-    ensures { Answers (limits_questions asked) result.answer result.limits (accepted asked) zero_limits }
+// The limits that a link is opened with: 1 to 3.
+pub fn accept(l: Limits) -> Result<Limits, Refusal>
+    ensures { Answered (limits_questions l) result (accepted l) }
 {
-    let answer = first_no(asked);
-    let Answer::Done = answer else {
-        return Accepted {
-            answer,
-            limits: Limits {
-                window: 0,
-                datalife: 0,
-                replylife: 0,
-                replywait: 0,
-                resendwait: 0,
-            },
-        };
+    asked(l)?;
+    let resendwait = if l.resendwait == 0 {
+        default_wait(l)
+    } else {
+        l.resendwait
     };
-    let mut limits = asked;
-    if asked.resendwait == 0 {
-        limits.resendwait = default_wait(asked);
-    }
-    Accepted { answer, limits }
+    Ok(Limits { resendwait, ..l })
 }
 
 // Question 4 of limits.
 pub fn sound_limits(l: Limits) -> bool
     ensures { result ≡ sound_limits l }
 {
-    let answer = first_no(l);
-    let Answer::Done = answer else {
-        return false;
-    };
-    l.resendwait != 0
+    asked(l).is_ok() && l.resendwait != 0
 }

@@ -5,47 +5,58 @@ use mathlib.Core.Bool.{Bool, true, false}
 use mathlib.Core.List.{List, ◌∷◌}
 use lib.Dec.{eqb}
 use borrow.Author.Tests.{le-leb, lt-leb, eq-eqb}
-use Rattle.limits.specs.declared.answer.Answer.{Answer}
-use Rattle.limits.specs.declared.answer.Answer.TheVariants.{Done, BadWindow, BadTimes, BadWait, Unsound, OddEvents, PartialRow, ShortAnswers, UnknownKind, BadArgument, WindowFull, NoRowLeft, IllegalCell, DataTableFull, NotOutstanding, AlreadyAcknowledged, TimerRunning, NoMessage, ReplyTableFull, SpanNotOutstanding, NothingReady, RecordFull, UnknownFrame, BadFrameLength, BadFrameWindow, BadFrameNumber, BadFrameLife, BadFrameSpan, ShortBuffer, BadInputLength, BadRecordLength, NoSuchPage, ShortPageBuffer}
-use Rattle.limits.specs.Answer.{number_of}
-use Rattle.limits.specs.Questions.{pick, Question, ask, first_no, Answers, Called, time_questions}
+use Rattle.limits.specs.declared.answer.Refusal.{Refusal}
+use Rattle.limits.specs.declared.answer.Refusal.TheVariants.{BadWindow, BadTimes, BadWait, Unsound, OddEvents, PartialRow, ShortAnswers, UnknownKind, BadArgument, WindowFull, NoRowLeft, IllegalCell, DataTableFull, NotOutstanding, AlreadyAcknowledged, TimerRunning, NoMessage, ReplyTableFull, SpanNotOutstanding, NothingReady, RecordFull, UnknownFrame, BadFrameLength, BadFrameWindow, BadFrameNumber, BadFrameLife, BadFrameSpan, ShortBuffer, BadInputLength, BadRecordLength, NoSuchPage, ShortPageBuffer}
+use Rattle.std.specs.Prelude.{Result, Ok, Err}
+use Rattle.std.specs.Result.{is_ok}
+use Rattle.limits.specs.Answer.{refusal_number, number_of}
+use Rattle.limits.specs.Questions.{pick, Question, ask, first_no, Answer, Answers, Called, time_questions}
 use Rattle.limits.proofs.Laws.Choice.{pick_yes, pick_no, pick_under}
 
--- the else of a `let Answer::Done = answer else`
-pub not_done : (a : Answer) → (a ≡ Done → ⊥) → eqb (number_of a) 0 ≡ false
-not_done Done k = absurd (k refl)
-not_done BadWindow k = refl
-not_done BadTimes k = refl
-not_done BadWait k = refl
-not_done Unsound k = refl
-not_done OddEvents k = refl
-not_done PartialRow k = refl
-not_done ShortAnswers k = refl
-not_done UnknownKind k = refl
-not_done BadArgument k = refl
-not_done WindowFull k = refl
-not_done NoRowLeft k = refl
-not_done IllegalCell k = refl
-not_done DataTableFull k = refl
-not_done NotOutstanding k = refl
-not_done AlreadyAcknowledged k = refl
-not_done TimerRunning k = refl
-not_done NoMessage k = refl
-not_done ReplyTableFull k = refl
-not_done SpanNotOutstanding k = refl
-not_done NothingReady k = refl
-not_done RecordFull k = refl
-not_done UnknownFrame k = refl
-not_done BadFrameLength k = refl
-not_done BadFrameWindow k = refl
-not_done BadFrameNumber k = refl
-not_done BadFrameLife k = refl
-not_done BadFrameSpan k = refl
-not_done ShortBuffer k = refl
-not_done BadInputLength k = refl
-not_done BadRecordLength k = refl
-not_done NoSuchPage k = refl
-not_done ShortPageBuffer k = refl
+-- no refusal has the number 0
+pub refusal-not-0 : (r : Refusal) → eqb (refusal_number r) 0 ≡ false
+refusal-not-0 BadWindow = refl
+refusal-not-0 BadTimes = refl
+refusal-not-0 BadWait = refl
+refusal-not-0 Unsound = refl
+refusal-not-0 OddEvents = refl
+refusal-not-0 PartialRow = refl
+refusal-not-0 ShortAnswers = refl
+refusal-not-0 UnknownKind = refl
+refusal-not-0 BadArgument = refl
+refusal-not-0 WindowFull = refl
+refusal-not-0 NoRowLeft = refl
+refusal-not-0 IllegalCell = refl
+refusal-not-0 DataTableFull = refl
+refusal-not-0 NotOutstanding = refl
+refusal-not-0 AlreadyAcknowledged = refl
+refusal-not-0 TimerRunning = refl
+refusal-not-0 NoMessage = refl
+refusal-not-0 ReplyTableFull = refl
+refusal-not-0 SpanNotOutstanding = refl
+refusal-not-0 NothingReady = refl
+refusal-not-0 RecordFull = refl
+refusal-not-0 UnknownFrame = refl
+refusal-not-0 BadFrameLength = refl
+refusal-not-0 BadFrameWindow = refl
+refusal-not-0 BadFrameNumber = refl
+refusal-not-0 BadFrameLife = refl
+refusal-not-0 BadFrameSpan = refl
+refusal-not-0 ShortBuffer = refl
+refusal-not-0 BadInputLength = refl
+refusal-not-0 BadRecordLength = refl
+refusal-not-0 NoSuchPage = refl
+refusal-not-0 ShortPageBuffer = refl
+
+-- an answer is Ok exactly where its number is 0
+pub is_ok-number : {X : Type 0} (a : Result X Refusal) → eqb (number_of a) 0 ≡ is_ok a
+is_ok-number (Ok x) = refl
+is_ok-number (Err r) = refusal-not-0 r
+
+-- the else of a `let Ok(()) = answer else`
+pub not_done : (a : Answer) → (a ≡ Ok tt → ⊥) → eqb (number_of a) 0 ≡ false
+not_done (Ok tt) k = absurd (k refl)
+not_done (Err r) k = refusal-not-0 r
 
 module _ {X : Type 0} (qs : List Question) (answer : Answer) (shown done refused : X) (first : number_of answer ≡ first_no qs) where
   pub answers-done : number_of answer ≡ 0 → shown ≡ done → Answers qs answer shown done refused
@@ -85,7 +96,7 @@ module _ (qs : List Question) (s : Bool) where
           result = a.result ∙ ap (λ n. pick (eqb n 0) done refused) (sym (sound-first e));
         }
 
-    pub answers-unsound : s ≡ false → answer ≡ Unsound → shown ≡ refused → Answers (ask 4 s ∷ qs) answer shown done refused
+    pub answers-unsound : s ≡ false → answer ≡ Err Unsound → shown ≡ refused → Answers (ask 4 s ∷ qs) answer shown done refused
     answers-unsound e u h = answers-refused _ _ _ _ _ (ap number_of u ∙ unsound-first e) (ap (λ a. eqb (number_of a) 0) u) h
 
     module _ {S : Type 0} (sound : S → Bool) (before after : S) where
@@ -96,7 +107,7 @@ module _ (qs : List Question) (s : Bool) where
             keeps = record { kept = λ ne. c.keeps.kept (λ z. ne (sound-first e ∙ z)); stays = c.keeps.stays };
           }
 
-      pub called-unsound : s ≡ false → answer ≡ Unsound → shown ≡ refused → after ≡ before
+      pub called-unsound : s ≡ false → answer ≡ Err Unsound → shown ≡ refused → after ≡ before
           → Called (ask 4 s ∷ qs) answer shown done refused sound before after
       called-unsound e u h b =
           record { answers = answers-unsound e u h; keeps = record { kept = λ _. b; stays = λ p. rw b p } }
