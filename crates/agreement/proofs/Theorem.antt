@@ -14,14 +14,14 @@ use Rattle.agreement.proofs.Laws.Calls.{came, same}
 use Rattle.agreement.proofs.Laws.Fresh.{opened, fresh-sound, track-fresh}
 
 pub demand-3 : Agreement
-demand-3 asked r o z supply first cs chain =
+demand-3 asked k o supply first cs chain =
     let l = accepted asked in
-    let f = opened asked r o z in
-    let t = track-fresh l f.1 supply first r.link f.0 in
-    let c = came l (good l f.1) supply first (start r.link first) fresh cs (ap sound_link f.0 ∙ fresh-sound l f.1) t chain in
+    let f = opened asked k o in
+    let t = track-fresh l f.1 supply first k f.0 in
+    let c = came l (good l f.1) supply first (start k first) fresh cs (ap sound_link f.0 ∙ fresh-sound l f.1) t chain in
     record {
       answers = c.numbers;
-      same = same l supply first (end_of (start r.link first) cs) (after_all l supply (length first) fresh (all_events supply cs)) c.track;
+      same = same l supply first (end_of (start k first) cs) (after_all l supply (length first) fresh (all_events supply cs)) c.track;
       never_refused = ap (all never_full) c.numbers ∙ none-full l supply (length first) fresh (all_events supply cs);
       never_unsound = c.never-4;
     }

@@ -1,5 +1,5 @@
 -- The built ends agree with the unbounded ends: every clause of the comparison.
-use Rattle.std.specs.Prelude.{ℕ, ◌+◌, ◌*◌, ◌≤◌, ◌≡◌, Bool, true, not, ◌||◌, List, ◌++◌, eqb, length, take, drop}
+use Rattle.std.specs.Prelude.{ℕ, ◌+◌, ◌*◌, ◌≤◌, ◌≡◌, Bool, true, not, ◌||◌, List, ◌++◌, eqb, length, take, drop, Ok}
 use Rattle.limits.specs.declared.Limits.{Limits}
 use Rattle.limits.specs.Answer.{number_of}
 use Rattle.limits.specs.Lists.{all}
@@ -10,7 +10,7 @@ use Rattle.air.specs.Data.{data_messages}
 use Rattle.air.specs.Replies.{reply_messages}
 use Rattle.unbounded.specs.Ends.{Ends, fresh}
 use Rattle.unbounded.specs.Lists.{answers, after_all}
-use Rattle.link.specs.declared.Opening.{Opening}
+use Rattle.events.specs.declared.Link.{Link}
 use Rattle.link.specs.View.{Opened}
 use Rattle.agreement.specs.Reading.{reading}
 use Rattle.agreement.specs.Calls.{Made, Line, start, Chain, end_of, all_events, all_numbers}
@@ -50,6 +50,6 @@ pub record Agreed (l : Limits) (supply first : List ℕ) (x : Line) (cs : List M
 -- Demand 3: whatever was opened, whatever is called and whatever the air did.
 abbrev pub Agreement : Type 0
 Agreement =
-    (asked : Limits) (r : Opening) → Opened asked r → number_of r.answer ≡ 0
-    → (supply first : List ℕ) (cs : List Made) → Chain supply (start r.link first) cs
-    → Agreed (accepted asked) supply first (start r.link first) cs
+    (asked : Limits) (k : Link) → Opened asked (Ok k)
+    → (supply first : List ℕ) (cs : List Made) → Chain supply (start k first) cs
+    → Agreed (accepted asked) supply first (start k first) cs

@@ -5,7 +5,7 @@ ghost use Rattle.std.specs.Prelude.{◌≡◌, ◌<◌};
 ghost use Rattle.cframes.specs.Frames.{ReadFrame, WriteFrame};
 
 use frames::{DataFrame, ReplyFrame};
-use limits::answer::Answer;
+use limits::answer::Refusal;
 
 fn narrow(x: usize) -> u16
     requires { x < 65536 }
@@ -27,8 +27,8 @@ pub fn read(frame: &[u8], head: &mut [u16; 5], cells: &mut [u16; 16]) -> u8
 {
     let got = frames::read(frame);
     let answer = got.answer;
-    let Answer::Done = answer else {
-        return limits::answer::number(answer);
+    let Ok(()) = answer else {
+        return limits::answer::number(&answer);
     };
     let f = got.dataframe;
     let row = f.row;
@@ -61,7 +61,7 @@ pub fn write(head: &[u16; 5], cells: &[u16; 16], buffer: &mut [u8], count: &mut 
         let written = frames::write_data(f, buffer);
         *count = written.count;
         let answer = written.answer;
-        limits::answer::number(answer)
+        limits::answer::number(&answer)
     } else if kind == 2 {
         let f = ReplyFrame {
             life: h[1],
@@ -72,7 +72,7 @@ pub fn write(head: &[u16; 5], cells: &[u16; 16], buffer: &mut [u8], count: &mut 
         let written = frames::write_reply(f, buffer);
         *count = written.count;
         let answer = written.answer;
-        limits::answer::number(answer)
+        limits::answer::number(&answer)
     } else {
         *count = 0;
         22

@@ -1,13 +1,15 @@
 -- What the functions for C promise: the number they return, and the whole contents at exit of everything that is lent.
-use Rattle.std.specs.Prelude.{ℕ, ◌%◌, ◌*◌, ◌≡◌, ◌&&◌, List, [], ◌∷◌, leb, drop}
+use Rattle.std.specs.Prelude.{ℕ, ◌%◌, ◌*◌, ◌≡◌, ◌&&◌, List, [], ◌∷◌, leb, drop, Result, Ok, Err}
+use Rattle.limits.specs.declared.answer.Refusal.{Refusal}
+use Rattle.events.specs.declared.Link.{Link}
 use Rattle.limits.specs.declared.Limits.{Limits}
 use Rattle.limits.specs.Answer.{number_of}
+use Rattle.limits.specs.Limits.{zero_limits}
 use Rattle.limits.specs.Questions.{pick}
 use Rattle.events.specs.declared.Counts.{Counts}
 use Rattle.events.specs.declared.Progress.{Progress}
-use Rattle.link.specs.declared.Opening.{Opening}
 use Rattle.runs.specs.View.{Stepped, Ran}
-use Rattle.link.specs.View.{Opened}
+use Rattle.link.specs.View.{fresh_link, Opened}
 use Rattle.agreement.specs.Calls.{Made, Line, following, Met}
 use Rattle.ride.specs.declared.Outcome.{Outcome}
 use Rattle.ride.specs.Ride.{Rode}
@@ -28,11 +30,19 @@ asked window datalife replylife replywait resendwait =
     }
 
 -- An opening stores the link that it gives: fresh, or of zeros where it is refused.
+abbrev pub limits_or_zeros : Result Limits Refusal → Limits
+limits_or_zeros (Ok l) = l
+limits_or_zeros (Err refusal) = zero_limits
+
+abbrev pub link_or_zeros : Result Link Refusal → Link
+link_or_zeros (Ok k) = k
+link_or_zeros (Err refusal) = fresh_link zero_limits
+
 pub record OpenCall (l : Limits) (after : CLink) (r : ℕ) : Type 0 where
-  pub opening : Opening
+  pub opening : Result Link Refusal
   pub promise : Opened l opening
-  pub number : r ≡ number_of opening.answer
-  pub left : after ≡ stored opening.link
+  pub number : r ≡ number_of opening
+  pub left : after ≡ stored (link_or_zeros opening)
 
 abbrev pub counts_list : Counts → List ℕ
 counts_list n = n.sent ∷ n.acknowledged ∷ n.recorded ∷ []

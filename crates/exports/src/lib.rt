@@ -4,7 +4,7 @@
 
 ghost use Rattle.std.specs.Prelude.{◌≡◌, ◌%◌};
 ghost use Rattle.clinks.specs.Links.{clink};
-ghost use Rattle.exports.specs.Calls.{capped, asked, kind_of, counts_list, OpenCall, StepCall, RunCall, RideCall};
+ghost use Rattle.exports.specs.Calls.{capped, asked, limits_or_zeros, kind_of, counts_list, OpenCall, StepCall, RunCall, RideCall};
 
 pub mod cframe;
 pub mod cpage;
@@ -12,7 +12,7 @@ pub mod cpage;
 use events::Counts;
 use events::moves::Numbers;
 use limits::Limits;
-use limits::answer::Answer;
+use limits::answer::Refusal;
 
 // A limit above 65535 is refused as 65535 is.
 fn capped_limit(x: u32) -> u16
@@ -45,6 +45,12 @@ fn counts_of(n: Counts) -> [usize; 3]
     [n.sent, n.acknowledged, n.recorded]
 }
 
+fn limits_or_zeros(opening: Result<Limits, Refusal>) -> Limits
+    ensures { result ≡ limits_or_zeros opening }
+{
+    opening.unwrap_or_default()
+}
+
 // Opens a link: 1, 2, 3. A refusal stores a link of zeros.
 pub fn matlink_lent_open(
     head: &mut [u16; 10],
@@ -66,8 +72,7 @@ pub fn matlink_lent_open(
         (clink head.new matmark.new mattimer.new matcell.new
         padmark.new padtimer.new padcell.new datas.new replies.new) result }
 {
-    let a = limits::accept(asked_limits(window, datalife, replylife, replywait, resendwait));
-    let l = a.limits;
+    let opening = limits::accept(asked_limits(window, datalife, replylife, replywait, resendwait));
     let n = Numbers {
         oldest: 0,
         next: 0,
@@ -75,7 +80,7 @@ pub fn matlink_lent_open(
         datas: 0,
         replies: 0,
     };
-    *head = clinks::head_of(l, n);
+    *head = clinks::head_of(limits_or_zeros(opening), n);
     *matmark = [0; 32];
     *mattimer = [0; 32];
     *matcell = [0; 512];
@@ -84,8 +89,7 @@ pub fn matlink_lent_open(
     *padcell = [0; 512];
     *datas = [0; 576];
     *replies = [0; 96];
-    let answer = a.answer;
-    limits::answer::number(answer)
+    limits::answer::number(&opening)
 }
 
 // A kind or an argument above 255 is no byte: the event is then of the unknown kind 0.
@@ -151,8 +155,8 @@ pub fn matlink_lent_step(
     let n = s.counts;
     *counts = counts_of(n);
     let answer = s.answer;
-    let Answer::Done = answer else {
-        return limits::answer::number(answer);
+    let Ok(()) = answer else {
+        return limits::answer::number(&answer);
     };
     let after = s.numbers;
     *head = clinks::head_of(l, after);
@@ -207,8 +211,8 @@ pub fn matlink_lent_run(
     let n = s.counts;
     *counts = counts_of(n);
     let answer = s.answer;
-    let Answer::Done = answer else {
-        return limits::answer::number(answer);
+    let Ok(()) = answer else {
+        return limits::answer::number(&answer);
     };
     let after = s.numbers;
     *head = clinks::head_of(l, after);
@@ -238,5 +242,5 @@ pub fn matlink_lent_ride(
     let n = outcome.counts;
     *counts = counts_of(n);
     let answer = outcome.answer;
-    limits::answer::number(answer)
+    limits::answer::number(&answer)
 }

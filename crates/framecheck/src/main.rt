@@ -8,7 +8,7 @@ mod print;
 ghost use Rattle.std.specs.Prelude.{◌≡◌};
 
 use frames::{DataFrame, ReplyFrame};
-use limits::answer::Answer;
+use limits::answer::Refusal;
 use print::number;
 use std::io;
 use std::io::Read;
@@ -28,7 +28,7 @@ fn data(rt: &impl Print, f: DataFrame) -> io::Result<()> {
     let mut buffer = [0u8; 40];
     let w = frames::write_data(f, &mut buffer);
     let answer = w.answer;
-    number(rt, limits::answer::number(answer) as u64)?;
+    number(rt, limits::answer::number(&answer) as u64)?;
     number(rt, w.count as u64)?;
     print::bytes(rt, &buffer)
 }
@@ -41,7 +41,7 @@ fn reply(rt: &impl Print, f: ReplyFrame) -> io::Result<()> {
     let mut buffer = [0u8; 8];
     let w = frames::write_reply(f, &mut buffer);
     let answer = w.answer;
-    number(rt, limits::answer::number(answer) as u64)?;
+    number(rt, limits::answer::number(&answer) as u64)?;
     number(rt, w.count as u64)?;
     print::bytes(rt, &buffer)
 }
@@ -50,9 +50,9 @@ fn one(rt: &impl Print, frame: &[u8]) -> io::Result<()> {
     let r = frames::read(frame);
     let answer = r.answer;
     let kind = r.kind;
-    number(rt, limits::answer::number(answer) as u64)?;
+    number(rt, limits::answer::number(&answer) as u64)?;
     number(rt, kind as u64)?;
-    let Answer::Done = answer else {
+    let Ok(()) = answer else {
         return print::end(rt);
     };
     if kind == 1 {

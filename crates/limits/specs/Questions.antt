@@ -1,5 +1,5 @@
 -- Questions are put in order. The first one answered no gives the number, and 0 means done.
-use Rattle.std.specs.Prelude.{ℕ, ◌≡◌, Bool, true, false, List, [], ◌∷◌, eqb, leb, Result, IfOk}
+use Rattle.std.specs.Prelude.{ℕ, ◌≡◌, Bool, true, false, List, [], ◌∷◌, eqb, leb, Result, IfOk, OnOk, OnErr}
 use Rattle.limits.specs.declared.answer.Refusal.{Refusal}
 use Rattle.limits.specs.Answer.{number_of}
 
@@ -22,6 +22,14 @@ first_no (q ∷ qs) = pick q.passes (first_no qs) q.code
 pub record Answered {X : Type 0} (questions : List Question) (result : Result X Refusal) (done : X) : Type 0 where
   pub number : number_of result ≡ first_no questions
   pub value : IfOk result (λ x. x ≡ done)
+
+-- A call that changes a state in place: what it answers, and what is shown of the state that it leaves. A refused call leaves the
+-- state exactly as it was given, and every call leaves a sound state sound.
+pub record Changed {S V X : Type 0} (questions : List Question) (result : Result X Refusal) (done : X) (shown moved : V) (sound : S → Bool) (before after : S) : Type 0 where
+  pub answered : Answered questions result done
+  pub left : OnOk result (shown ≡ moved)
+  pub kept : OnErr result (after ≡ before)
+  pub stays : sound before ≡ true → sound after ≡ true
 
 -- An answer with nothing beside it.
 abbrev pub Answer : Type 0

@@ -1,6 +1,8 @@
 -- The messages in the air. A table is their list, in the order they were put.
 use Rattle.std.specs.Prelude.{ℕ, zero, suc, ◌-◌, ◌*◌, ◌+◌, Bool, ◌&&◌, List, [], ◌∷◌, ◌++◌, leb, ltb, length, replicate}
 use Rattle.limits.specs.declared.Limits.{Limits}
+use Rattle.limits.specs.declared.messages.Data as data_type
+use Rattle.limits.specs.declared.messages.Reply as reply_type
 use Rattle.limits.specs.Questions.{pick}
 use Rattle.limits.specs.Cells.{legal_row}
 use Rattle.limits.specs.Ring.{distance}
@@ -10,15 +12,12 @@ pub record Message (B : Type 0) : Type 0 where
   pub body : B
   pub life : ℕ
 
--- a row under its number (a data packet)
-pub record Data : Type 0 where
-  pub number : ℕ
-  pub row : List ℕ
+-- what messages carry: a row under its number (a data packet), the numbers from first to last (a block acknowledgment)
+abbrev pub Data : Type 0
+Data = data_type.Data
 
--- the numbers from first to last (a block acknowledgment)
-pub record Reply : Type 0 where
-  pub first : ℕ
-  pub last : ℕ
+abbrev pub Reply : Type 0
+Reply = reply_type.Reply
 
 -- what stands for a message where there is none
 abbrev pub no_data : Message Data

@@ -19,13 +19,14 @@ ghost use Rattle.limits.specs.Limits.{
 
 pub mod answer;
 pub mod cells;
+pub mod messages;
 pub mod ring;
 
 use answer::Refusal;
 
 // Times are in ticks: the lives of data and replies in the air, the pad's reply wait (acknowledgment delay) and the mat's
 // resend wait (retransmission timeout).
-#[derive(Clone, Copy)]
+#[derive(Clone, Copy, Default)]
 pub struct Limits {
     pub window: usize,
     pub datalife: u16,

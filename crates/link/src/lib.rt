@@ -11,13 +11,7 @@ use air::{datatable, replytable};
 use events::moves::Numbers;
 use events::{Link, Progress};
 use limits::Limits;
-use limits::answer::Answer;
-
-#[derive(Clone, Copy)]
-pub struct Opening {
-    pub answer: Answer,
-    pub link: Link,
-}
+use limits::answer::Refusal;
 
 fn fresh(limits: Limits) -> Link
     ensures { result ≡ fresh_link limits }
@@ -31,17 +25,12 @@ fn fresh(limits: Limits) -> Link
     }
 }
 
-// A link with the limits asked for: 1, 2, 3. A refusal gives a link of zeros.
-pub fn open(asked: Limits) -> Opening
+// A link with the limits asked for: 1, 2, 3.
+pub fn open(asked: Limits) -> Result<Link, Refusal>
     ensures { Opened asked result }
 {
-    let a = limits::accept(asked);
-    let answer = a.answer;
-    let l = a.limits;
-    Opening {
-        answer,
-        link: fresh(l),
-    }
+    let accepted = limits::accept(asked)?;
+    Ok(fresh(accepted))
 }
 
 // The numbers of a link.

@@ -3,9 +3,7 @@ use std::io;
 use tries::{line, of};
 
 fn opening(rt: &impl Print, what: &[u8], window: usize, time: u16, wait: u16) -> io::Result<()> {
-    let r = limits::accept(of(window, time, wait));
-    let answer = r.answer;
-    line(rt, what, answer)
+    line(rt, what, limits::accept(of(window, time, wait)))
 }
 
 pub fn tries(rt: &impl Print) -> io::Result<()> {

@@ -10,7 +10,7 @@ ghost use Rattle.report.specs.Report.{output_length, no_answers, text_of, Room, 
 
 use buffers::Written;
 use events::Counts;
-use limits::answer::Answer;
+use limits::answer::Refusal;
 
 fn small(n: usize) -> u8
     requires { n ≤ 255 }
@@ -31,11 +31,11 @@ fn no_answers() -> [u8; 20480]
     [0; 20480]
 }
 
-fn refused(output: &mut [u8], answer: Answer) -> usize
+fn refused(output: &mut [u8], answer: Result<(), Refusal>) -> usize
     requires { 12 ≤ length output.old }
     ensures { Wrote 0 (refused_line (number_of answer)) output.old output.new result }
 {
-    lines::text::refused_line(output, 0, limits::answer::number(answer))
+    lines::text::refused_line(output, 0, limits::answer::number(&answer))
 }
 
 // The lines of the events and that of the counts.
@@ -70,7 +70,7 @@ fn ridden(input: &[u8], output: &mut [u8]) -> usize
         &mut answers,
     );
     let answer = outcome.answer;
-    let Answer::Done = answer else {
+    let Ok(()) = answer else {
         return refused(output, answer);
     };
     let counts = outcome.counts;
@@ -84,7 +84,7 @@ fn text(input: &[u8], output: &mut [u8]) -> usize
     if lines::input::readable(input) {
         ridden(input, output)
     } else {
-        refused(output, Answer::BadInputLength)
+        refused(output, Err(Refusal::BadInputLength))
     }
 }
 
@@ -95,10 +95,10 @@ pub fn report(input: &[u8], output: &mut [u8]) -> Written
     if 245760 <= output.len() {
         let count = text(input, output);
         Written {
-            answer: Answer::Done,
+            answer: Ok(()),
             count,
         }
     } else {
-        buffers::not_written(Answer::ShortBuffer)
+        buffers::not_written(Err(Refusal::ShortBuffer))
     }
 }

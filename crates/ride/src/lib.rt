@@ -6,11 +6,11 @@ ghost use Rattle.ride.specs.Ride.{Rode};
 
 use events::Counts;
 use limits::Limits;
-use limits::answer::Answer;
+use limits::answer::Refusal;
 
 #[derive(Clone, Copy)]
 pub struct Outcome {
-    pub answer: Answer,
+    pub answer: Result<(), Refusal>,
     pub counts: Counts,
 }
 
@@ -25,19 +25,19 @@ pub fn ride(
     ensures { Rode asked events.now supply.now «record».old «record».new
         answers.old answers.new result }
 {
-    let opening = link::open(asked);
-    let opened = opening.answer;
-    let Answer::Done = opened else {
-        return Outcome {
-            answer: opened,
-            counts: Counts {
-                sent: 0,
-                acknowledged: 0,
-                recorded: 0,
-            },
-        };
+    let fresh = match link::open(asked) {
+        Ok(link) => link,
+        Err(refusal) => {
+            return Outcome {
+                answer: Err(refusal),
+                counts: Counts {
+                    sent: 0,
+                    acknowledged: 0,
+                    recorded: 0,
+                },
+            };
+        }
     };
-    let fresh = opening.link;
     let progress = link::run(fresh, events, supply, record, answers);
     let answer = progress.answer;
     let counts = progress.counts;

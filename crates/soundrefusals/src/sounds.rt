@@ -1,15 +1,16 @@
 // Question 4 by itself.
 use air::{datatable, replytable};
-use limits::answer::Answer;
+use limits::answer::Refusal;
 use std::io;
 use tries::line;
 
 fn sound(rt: &impl Print, what: &[u8], passes: bool) -> io::Result<()> {
-    if passes {
-        line(rt, what, Answer::Done)
+    let answer = if passes {
+        Ok(())
     } else {
-        line(rt, what, Answer::Unsound)
-    }
+        Err(Refusal::Unsound)
+    };
+    line(rt, what, answer)
 }
 
 fn sound_limits(rt: &impl Print) -> io::Result<()> {

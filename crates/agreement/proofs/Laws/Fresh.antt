@@ -5,15 +5,14 @@ use mathlib.Core.Bool.{Bool, true, false}
 use mathlib.Core.List.{List, []}
 use native.Mathlib.Omega.{arith}
 use native.Mathlib.Nat.{mod-eq_of_lt}
-use lib.Dec.{eqb, leb}
+use lib.Dec.{leb}
 use lib.ListN.{length}
-use borrow.Author.Tests.{eq-eqb}
 use Rattle.limits.specs.declared.Limits.{Limits}
-use Rattle.limits.specs.Answer.{number_of}
 use Rattle.limits.specs.Lists.{tab}
-use Rattle.limits.specs.Questions.{pick, first_no}
-use Rattle.limits.specs.Limits.{limits_questions, accepted, zero_limits, sound_limits}
-use Rattle.limits.proofs.Laws.Choice.{both, pick_yes}
+use Rattle.limits.specs.Questions.{pick}
+use Rattle.std.specs.Prelude.{Ok}
+use Rattle.limits.specs.Limits.{accepted, sound_limits}
+use Rattle.limits.proofs.Laws.Choice.{both}
 use Rattle.limits.proofs.Laws.Lists.{tab-ext}
 use Rattle.limits.proofs.Laws.Good.{good, accepted-sound}
 use Rattle.mat.specs.View.{mat_state, fresh_mat}
@@ -26,7 +25,6 @@ use Rattle.unbounded.specs.Ends.{fresh}
 use Rattle.unbounded.proofs.Laws.Invariant.{fresh-inv}
 use Rattle.unbounded.proofs.Laws.Carried.{fresh-carried}
 use Rattle.events.specs.declared.Link.{Link}
-use Rattle.link.specs.declared.Opening.{Opening}
 use Rattle.events.specs.View.{link_state, sound_link}
 use Rattle.link.specs.View.{fresh_link, Opened}
 use Rattle.agreement.specs.Reading.{reading, mat_of, pad_of, timer_of}
@@ -77,11 +75,6 @@ module _ (l : Limits) (h : sound_limits l ≡ true) where
         shows = record { state = ap link_state e ∙ fresh-reading; sent = refl; acknowledged = refl; recorded = refl; buffer = refl };
       }
 
--- an opening that answers 0
-pub opened : (asked : Limits) (r : Opening) → Opened asked r → number_of r.answer ≡ 0
-    → (r.link ≡ fresh_link (accepted asked)) × (sound_limits (accepted asked) ≡ true)
-opened asked r o z =
-    let f : first_no (limits_questions asked) ≡ 0 = sym o.number ∙ z in (
-      o.result ∙ pick_yes (eqb (first_no (limits_questions asked)) 0) (fresh_link (accepted asked)) (fresh_link zero_limits) _ (eq-eqb _ _ f) refl,
-      accepted-sound asked f,
-    )
+-- an opening that gives a link
+pub opened : (asked : Limits) (k : Link) → Opened asked (Ok k) → (k ≡ fresh_link (accepted asked)) × (sound_limits (accepted asked) ≡ true)
+opened asked k o = (o.value, accepted-sound asked (sym o.number))

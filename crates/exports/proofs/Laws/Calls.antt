@@ -8,10 +8,11 @@ use lib.Dec.{eqb, leb}
 use lib.ListN.{replicate}
 use borrow.Author.Tests.{eqb-true, eqb-false, le-leb, leb-true}
 use Rattle.limits.specs.declared.Limits.{Limits}
-use Rattle.limits.specs.declared.answer.Answer.{Answer}
+use Rattle.std.specs.Prelude.{Result, Ok, Err}
+use Rattle.limits.specs.declared.answer.Refusal.{Refusal}
 use Rattle.limits.specs.Answer.{number_of}
 use Rattle.limits.specs.Limits.{limits_questions, accepted, zero_limits}
-use Rattle.limits.specs.Questions.{pick, Question, ask, first_no, Answers, Called}
+use Rattle.limits.specs.Questions.{pick, Question, ask, first_no, Answers, Answered, Called}
 use Rattle.limits.proofs.Laws.Choice.{both, test, pick_yes, pick_no, pick_under, pick-cases}
 use Rattle.limits.proofs.Laws.Good.{good}
 use Rattle.limits.proofs.Laws.Promise.{unsound-first}
@@ -26,7 +27,7 @@ use Rattle.events.proofs.Laws.Parts.{parts, mat-numbers, pad-number}
 use Rattle.link.specs.View.{fresh_link}
 use Rattle.clinks.specs.Links.{CLink, clink, is_on, bit, limits_at, numbers_at, head_of, link_at}
 use Rattle.clinks.proofs.Laws.Links.{stored_back}
-use Rattle.exports.specs.Calls.{capped, asked, kind_of, counts_list, OpenCall, Leaves}
+use Rattle.exports.specs.Calls.{capped, asked, limits_or_zeros, kind_of, counts_list, OpenCall, Leaves}
 
 pub byte-kind : (kind argument : ℕ) → kind ≤ 255 → argument ≤ 255 → kind ≡ kind_of kind argument
 unfolding kind_of
@@ -103,10 +104,10 @@ module _ (s : CLink) (after : Arrays) (r : Step) (counts : List ℕ) (told : cou
       same = c.keeps.kept (λ y. eqb-false (number_of r.answer) 0 z (c.answers.number ∙ y))
 
 -- limits that were accepted fit 16 bits where those asked for do
-pub accepted-small : (l m : Limits) (a : Answer) → Answers (limits_questions l) a m (accepted l) zero_limits → l.window < 65536 → m.window < 65536
+pub accepted-small : (l : Limits) (r : Result Limits Refusal) → Answered (limits_questions l) r (accepted l) → l.window < 65536 → (limits_or_zeros r).window < 65536
 unfolding accepted
-accepted-small l m a c h =
-    rw c.result (pick-cases (λ x. x.window < 65536) (eqb (first_no (limits_questions l)) 0) (accepted l) zero_limits (λ _. h) (λ _. omega arith))
+accepted-small l (Ok m) c h = rw c.value h
+accepted-small l (Err refusal) c h = omega arith
 
 pub capped_small : (x : ℕ) → capped x < 65536
 unfolding capped
@@ -117,19 +118,23 @@ unfolding pick
 bits-off = refl
 
 -- what an opening stores
-pub opened : (asked l : Limits) (a : Answer) (head : List ℕ) (r : ℕ) → Answers (limits_questions asked) a l (accepted asked) zero_limits
-    → head ≡ head_of l (record { oldest = 0; next = 0; wanted = 0; datas = 0; replies = 0 }) → r ≡ number_of a
+pub opened : (asked l : Limits) (a : Result Limits Refusal) (head : List ℕ) (r : ℕ) → Answered (limits_questions asked) a (accepted asked)
+    → l ≡ limits_or_zeros a → head ≡ head_of l (record { oldest = 0; next = 0; wanted = 0; datas = 0; replies = 0 }) → r ≡ number_of a
     → OpenCall asked
     (clink head (replicate 32 0) (replicate 32 0) (replicate 512 0) (replicate 32 0) (replicate 32 0) (replicate 512 0) (replicate 576 0) (replicate 96 0)) r
-opened asked l a head r c e q =
+opened asked l (Ok m) head r c z e q =
     record {
-      opening = record { answer = a; link = fresh_link l };
-      promise =
-          record {
-            number = c.number;
-            result = ap fresh_link c.result ∙ pick_under fresh_link (eqb (first_no (limits_questions asked)) 0) (accepted asked) zero_limits;
-          };
+      opening = Ok (fresh_link m);
+      promise = record { number = c.number; value = ap fresh_link c.value };
       number = q;
       left =
-          λ i. clink (e i) (bits-off i) (replicate 32 0) (replicate 512 0) (bits-off i) (replicate 32 0) (replicate 512 0) (replicate 576 0) (replicate 96 0);
+          λ i. clink ((e ∙ ap (λ x. head_of x (record { oldest = 0; next = 0; wanted = 0; datas = 0; replies = 0 })) z) i) (bits-off i) (replicate 32 0) (replicate 512 0) (bits-off i) (replicate 32 0) (replicate 512 0) (replicate 576 0) (replicate 96 0);
+    }
+opened asked l (Err refusal) head r c z e q =
+    record {
+      opening = Err refusal;
+      promise = record { number = c.number; value = c.value };
+      number = q;
+      left =
+          λ i. clink ((e ∙ ap (λ x. head_of x (record { oldest = 0; next = 0; wanted = 0; datas = 0; replies = 0 })) z) i) (bits-off i) (replicate 32 0) (replicate 512 0) (bits-off i) (replicate 32 0) (replicate 512 0) (replicate 576 0) (replicate 96 0);
     }

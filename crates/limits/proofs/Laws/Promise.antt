@@ -10,7 +10,7 @@ use Rattle.limits.specs.declared.answer.Refusal.TheVariants.{BadWindow, BadTimes
 use Rattle.std.specs.Prelude.{Result, Ok, Err}
 use Rattle.std.specs.Result.{is_ok}
 use Rattle.limits.specs.Answer.{refusal_number, number_of}
-use Rattle.limits.specs.Questions.{pick, Question, ask, first_no, Answer, Answers, Called, time_questions}
+use Rattle.limits.specs.Questions.{pick, Question, ask, first_no, Answer, Answers, Answered, Called, Changed, time_questions}
 use Rattle.limits.proofs.Laws.Choice.{pick_yes, pick_no, pick_under}
 
 -- no refusal has the number 0
@@ -54,8 +54,8 @@ is_ok-number (Ok x) = refl
 is_ok-number (Err r) = refusal-not-0 r
 
 -- the else of a `let Ok(()) = answer else`
-pub not_done : (a : Answer) → (a ≡ Ok tt → ⊥) → eqb (number_of a) 0 ≡ false
-not_done (Ok tt) k = absurd (k refl)
+pub not_done : {X : Type 0} (a : Result X Refusal) → ((x : X) → a ≡ Ok x → ⊥) → eqb (number_of a) 0 ≡ false
+not_done (Ok x) k = absurd (k x refl)
 not_done (Err r) k = refusal-not-0 r
 
 module _ {X : Type 0} (qs : List Question) (answer : Answer) (shown done refused : X) (first : number_of answer ≡ first_no qs) where
@@ -161,3 +161,19 @@ called-read f g qs qs' answer shown done refused done' sound sound' before after
             stays = λ h. same after ∙ c.keeps.stays (sym (same before) ∙ h);
           };
     }
+
+-- the same promise by other questions with the same first no
+pub answered-as : {X : Type 0} (qs qs' : List Question) (r : Result X Refusal) (done : X) → first_no qs ≡ first_no qs'
+    → Answered qs r done → Answered qs' r done
+answered-as qs qs' r done e a = record { number = a.number ∙ e; value = a.value }
+
+pub changed-as : {S V X : Type 0} (qs qs' : List Question) (r : Result X Refusal) (done : X) (shown moved : V) (sound : S → Bool) (before after : S)
+    → first_no qs ≡ first_no qs' → Changed qs r done shown moved sound before after → Changed qs' r done shown moved sound before after
+changed-as qs qs' r done shown moved sound before after e c =
+    record { answered = answered-as qs qs' r done e c.answered; left = c.left; kept = c.kept; stays = c.stays }
+
+-- a call that is refused, and leaves the state as it was
+pub changed-refused : {S V X : Type 0} (qs : List Question) (refusal : Refusal) (done : X) (shown moved : V) (sound : S → Bool) (before after : S)
+    → refusal_number refusal ≡ first_no qs → after ≡ before → Changed qs (Err refusal) done shown moved sound before after
+changed-refused qs refusal done shown moved sound before after e h =
+    record { answered = record { number = e; value = tt }; left = tt; kept = h; stays = λ b. rw h b }

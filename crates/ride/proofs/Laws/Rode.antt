@@ -15,11 +15,14 @@ use Rattle.limits.specs.Questions.{pick, ask, first_no}
 use Rattle.limits.specs.Events.{Event, events}
 use Rattle.limits.proofs.Laws.Choice.{pick_yes, pick_no, test}
 use Rattle.limits.proofs.Laws.Questions.{first-stays, behind-passed}
-use Rattle.limits.proofs.Laws.Promise.{answers-refused}
+use Rattle.limits.specs.Questions.{Answer}
+use Rattle.limits.proofs.Laws.Promise.{answers-refused, refusal-not-0}
 use Rattle.unbounded.specs.Ends.{fresh}
 use Rattle.unbounded.specs.Lists as unbounded
 use Rattle.events.specs.declared.Counts.{Counts}
-use Rattle.link.specs.declared.Opening.{Opening}
+use Rattle.std.specs.Prelude.{Ok, Err}
+use Rattle.limits.specs.declared.answer.Refusal.{Refusal}
+use Rattle.events.specs.declared.Link.{Link}
 use Rattle.events.specs.declared.Progress.{Progress}
 use Rattle.events.specs.State.{no_counts, unmoved}
 use Rattle.lists.specs.Runs as runs
@@ -52,39 +55,38 @@ numbers-of-one : (b : Bool) (es : List Event) (xs : List ℕ) → b ≡ true →
 unfolding joined
 numbers-of-one b es xs e = append-nil (take (length (pick b es [])) xs) ∙ ap (λ (fs : List Event). take (length fs) xs) (pick_yes b es [] es e refl)
 
-module _ (asked : Limits) (bytes supply before answers_before : List ℕ) (o : Opening) (opens : Opened asked o) where
+module _ (asked : Limits) (bytes supply before answers_before : List ℕ) where
   -- the opening was refused
-  pub rode-unopened : (r : Outcome) → eqb (number_of o.answer) 0 ≡ false → r.answer ≡ o.answer → r.counts ≡ no_counts
+  pub rode-unopened : (refusal : Refusal) (r : Outcome) → Opened asked (Err refusal) → r.answer ≡ Err refusal → r.counts ≡ no_counts
       → Rode asked bytes supply before before answers_before answers_before r
-  rode-unopened r z a n =
+  rode-unopened refusal r opens a n =
       answers-refused (ride_questions asked bytes supply answers_before) r.answer _ _ _
       (ap number_of a
       ∙ opens.number
-      ∙ sym (first-stays (limits_questions asked) (lent_questions bytes supply answers_before) (ap (λ k. eqb k 0) (sym opens.number) ∙ z)))
-      (ap (λ x. eqb (number_of x) 0) a ∙ z)
+      ∙ sym (first-stays (limits_questions asked) (lent_questions bytes supply answers_before) (ap (λ k. eqb k 0) (sym opens.number) ∙ refusal-not-0 refusal)))
+      (ap (λ (x : Answer). eqb (number_of x) 0) a ∙ refusal-not-0 refusal)
       (ap (λ (k : Counts). record { counts = k; buffer = before; answers = answers_before }) n)
 
-  module _ (after answers_after : List ℕ) (p : Progress) (z : number_of o.answer ≡ 0)
-      (ran : Ran o.link bytes supply before after answers_before answers_after p) where
+  module _ (k : Link) (opens : Opened asked (Ok k)) (after answers_after : List ℕ) (p : Progress) (ran : Ran k bytes supply before after answers_before answers_after p) where
     none-asked : first_no (limits_questions asked) ≡ 0
-    none-asked = sym opens.number ∙ z
+    none-asked = sym opens.number
 
-    is-sound : sound_link o.link ≡ true
-    is-sound = let f = opened asked o opens z in ap sound_link f.0 ∙ fresh-sound (accepted asked) f.1
+    is-sound : sound_link k ≡ true
+    is-sound = let f = opened asked k opens in ap sound_link f.0 ∙ fresh-sound (accepted asked) f.1
 
-    run-asks : first_no (ask 4 (sound_link o.link) ∷ lent_questions bytes supply answers_before) ≡ lent bytes supply answers_before
-    run-asks = pick_yes (sound_link o.link) (lent bytes supply answers_before) 4 (lent bytes supply answers_before) is-sound refl
+    run-asks : first_no (ask 4 (sound_link k) ∷ lent_questions bytes supply answers_before) ≡ lent bytes supply answers_before
+    run-asks = pick_yes (sound_link k) (lent bytes supply answers_before) 4 (lent bytes supply answers_before) is-sound refl
 
     ride-asks : first_no (ride_questions asked bytes supply answers_before) ≡ lent bytes supply answers_before
     unfolding all
     ride-asks = behind-passed (limits_questions asked) (lent_questions bytes supply answers_before) refl none-asked
 
-    agreed : Agreed (accepted asked) supply before (start o.link before) (made bytes answers_before p after answers_after ∷ [])
-    agreed = demand-3 asked o opens z supply before (made bytes answers_before p after answers_after ∷ []) (ran, tt)
+    agreed : Agreed (accepted asked) supply before (start k before) (made bytes answers_before p after answers_after ∷ [])
+    agreed = demand-3 asked k opens supply before (made bytes answers_before p after answers_after ∷ []) (ran, tt)
 
     -- where everything was lent as it must be
     module _ (e : eqb (lent bytes supply answers_before) 0 ≡ true) where
-      shows : ◌≡◌ {A = Run} (record { moved = shown p after; answers = answers_after }) (running o.link bytes supply before answers_before)
+      shows : ◌≡◌ {A = Run} (record { moved = shown p after; answers = answers_after }) (running k bytes supply before answers_before)
       shows = ran.called.answers.result ∙ pick_yes _ _ _ _ (ap (λ n. eqb n 0) run-asks ∙ e) refl
 
       all-events : all_events supply (made bytes answers_before p after answers_after ∷ []) ≡ events bytes
@@ -95,16 +97,16 @@ module _ (asked : Limits) (bytes supply before answers_before : List ℕ) (o : O
       unfolding ends_of
       ends = ap (unbounded.after_all (accepted asked) supply (length before) fresh) all-events
 
-      same : Same (accepted asked) supply before (end_of (start o.link before) (made bytes answers_before p after answers_after ∷ [])) (ends_of asked bytes supply (length before))
+      same : Same (accepted asked) supply before (end_of (start k before) (made bytes answers_before p after answers_after ∷ [])) (ends_of asked bytes supply (length before))
       same = rw ends at agreed.same
 
       -- the run's own numbers are those of the unbounded ends
-      own : runs.answers supply (unmoved (link_state o.link) before) (events bytes) ≡ answers_of asked bytes supply (length before)
+      own : runs.answers supply (unmoved (link_state k) before) (events bytes) ≡ answers_of asked bytes supply (length before)
       unfolding answers_of
       own =
           sym (ap (λ (x : Run). take (length (events bytes)) x.answers) shows
-          ∙ take_at (runs.answers supply (unmoved (link_state o.link) before) (events bytes)) (drop (length bytes / 2) answers_before)
-          (length (events bytes)) (length-answers supply (unmoved (link_state o.link) before) (events bytes)))
+          ∙ take_at (runs.answers supply (unmoved (link_state k) before) (events bytes)) (drop (length bytes / 2) answers_before)
+          (length (events bytes)) (length-answers supply (unmoved (link_state k) before) (events bytes)))
           ∙ sym (numbers-of-one (eqb (lent bytes supply answers_before) 0) (events bytes) answers_after e)
           ∙ agreed.answers
           ∙ ap (unbounded.answers (accepted asked) supply (length before) fresh) all-events

@@ -1,13 +1,9 @@
-use mathlib.Core.Path.{refl, ap}
-use Rattle.limits.specs.Answer.{number_of}
-use Rattle.limits.proofs.Laws.Promise.{not_done}
+use mathlib.Core.Path.{refl}
 use Rattle.ride.proofs.Laws.Rode.{rode-unopened, rode-run}
 use Rattle.ride.proofs.ride.Goals as goal
 
-pub returns-in_default : goal.returns-in_default
-returns-in_default c =
-    rode-unopened _ _ _ _ _ _ c.open-opening.ensures _ (not_done c.open-opening.result.answer c.in_default.not-Done) refl refl
+pub returns-in-Err : goal.returns-in-Err
+returns-in-Err c = rode-unopened _ _ _ _ _ _ _ (rw c.in-Err.is at c.open.ensures) refl refl
 
 pub returns : goal.returns
-returns c =
-    rode-run _ _ _ _ _ _ c.open-opening.ensures _ _ _ (ap number_of c.in-Done.is) c.run-progress.ensures _ refl refl
+returns c = rode-run _ _ _ _ _ _ (rw c.in-Ok.is at c.open.ensures) _ _ _ c.run-progress.ensures _ refl refl
