@@ -1,7 +1,7 @@
 //! What each answer's number means. `tests/rides.sh` compares the names with crates/limits/src/answer.rt and the whole table
 //! with docs/RIDES.md.
 
-/// By number: the answer's name in crates/limits, and the words.
+/// By number: Done or the refusal's name in crates/limits, and the words.
 pub const NUMBERS: [(&str, &str); 33] = [
     ("Done", "the event was carried out"),
     ("BadWindow", "the window is not 1 to 32"),

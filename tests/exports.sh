@@ -63,7 +63,7 @@ timeout 10 "$here/wrong" >"$here/wrong.out" || status=$?
 [ "$status" = 1 ] || { echo "the example with a wrong answer: exit status $status"; exit 1; }
 
 # The answers: WindowFull is MATLINK_WINDOW_FULL, with the same number, and its text is the meaning that docs/RIDES.md gives.
-diff <(sed -n 's/^ *Answer::\([A-Za-z]*\) => \([0-9]*\),$/\1 = \2/p' crates/limits/src/answer.rt | sed 's/\([a-z]\)\([A-Z]\)/\1_\2/g' | tr a-z A-Z) \
+diff <(echo 'DONE = 0'; sed -n 's/^ *Refusal::\([A-Za-z]*\) => \([0-9]*\),$/\1 = \2/p' crates/limits/src/answer.rt | sed 's/\([a-z]\)\([A-Z]\)/\1_\2/g' | tr a-z A-Z) \
     <(sed -n '/^enum matlink_answer {$/,/^};$/s/^ *MATLINK_\([A-Z_]* = [0-9]*\)\(,\| \).*/\1/p' c/include/matlink.h) || { echo 'the header has other answers'; exit 1; }
 diff <(sed -n 's/^| \([0-9]*\) | `[A-Za-z]*` | \(.*\) |$/\1 \2/p' docs/RIDES.md |
     awk '{ text[$1] = substr($0, length($1) + 2) } END { for (n = 0; n < 256; n++) print n, n in text ? text[n] : "unknown answer" }') \
