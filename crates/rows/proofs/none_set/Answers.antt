@@ -1,28 +1,17 @@
-use Rattle.limits.proofs.Laws.Lists.{flag-start, flag-turn, flag-end}
+use lib.ListN.{take, drop}
+use mathlib.Core.Bool.{false, not}
+use mathlib.Core.Path.{◌≡◌, ◌∙◌, ap}
+use Prim.Native.Nat.{◌-◌}
 use native.Mathlib.Omega.{arith}
+use Rattle.limits.specs.Lists.{all}
+use Rattle.limits.proofs.Laws.Lists.{part-tab}
 use Rattle.std.proofs.Common.{rules}
+use Rattle.rows.proofs.Laws.Cells.{fold-keeps, tested-none, tested-more}
 use Rattle.rows.proofs.none_set.Goals as goal
 
-pub overflow_sub-count : goal.overflow_sub-count
-overflow_sub-count c = omega arith
-
-pub loop-i-init : goal.loop-i-init
-loop-i-init c = (search rules, search rules, flag-start _ _)
-
-pub overflow_add-from : goal.overflow_add-from
-overflow_add-from c = omega arith
-
-pub bounds-marks-from : goal.bounds-marks-from
-bounds-marks-from c = omega arith
-
-pub overflow_add-i : goal.overflow_add-i
-overflow_add-i c = omega arith
-
-pub loop-i-smaller : goal.loop-i-smaller
-loop-i-smaller c = omega arith
-
-pub loop-i-preserved : goal.loop-i-preserved
-loop-i-preserved c = (omega arith, search rules, flag-turn _ _ _ _ _ c.loop-i.invariant.2 c.both-good.ensures)
-
 pub returns : goal.returns
-returns c = flag-end _ _ _ _ _ c.loop-i.invariant.2 (omega arith)
+returns c =
+    let a = c.args in
+    let part : c.iter.result.rest.now ≡ take (a.to - a.from) (drop a.from a.marks.now) = search rules in
+    fold-keeps (λ ys g. g ≡ all not ys) c.fold.ensures.ran (tested-none not) (λ ys g x r f e q. (tested-more not g r x.now ys e (search rules), search rules))
+    ∙ ap (all not) (part ∙ part-tab a.marks.now a.from (a.to - a.from) false (omega arith))
