@@ -53,10 +53,11 @@ pub fn legal_cells(cells: &[u16], from: usize, to: usize) -> bool
     requires { (from ≤ to) × (to ≤ length cells.now) }
     ensures { result ≡ all legal_cell (take (to - from) (drop from cells.now)) }
 {
-    cells[from..to]
-        .iter()
-        .fold(0, |over, cell| over | limits::cells::excess(*cell))
-        == 0
+    let mut over = 0;
+    for cell in &cells[from..to] {
+        over |= limits::cells::excess(*cell);
+    }
+    over == 0
 }
 
 pub fn legal_row(row: [u16; 16]) -> bool
@@ -70,7 +71,11 @@ pub fn at_most(xs: &[u16; 32], n: usize, most: u16) -> bool
     requires { n ≤ 32 }
     ensures { result ≡ all (λ x. leb x most) (tab n (λ i. get_or xs.now i 0)) }
 {
-    xs[..n].iter().fold(true, |good, x| good & (*x <= most))
+    let mut good = true;
+    for x in &xs[..n] {
+        good &= *x <= most;
+    }
+    good
 }
 
 // Whether the marks from `from` to before `to` are off.
@@ -78,9 +83,11 @@ pub fn none_set(marks: &[bool], from: usize, to: usize) -> bool
     requires { (from ≤ to) × (to ≤ length marks.now) }
     ensures { result ≡ all not (tab (to - from) (λ i. get_or marks.now (from + i) false)) }
 {
-    marks[from..to]
-        .iter()
-        .fold(true, |good, mark| good & !*mark)
+    let mut good = true;
+    for mark in &marks[from..to] {
+        good &= !*mark;
+    }
+    good
 }
 
 // How far x lies beyond w.
@@ -124,13 +131,14 @@ pub fn after(w: usize, at: usize) -> usize
     if at + 1 < w { at + 1 } else { 0 }
 }
 
-// Sets the places of `count` numbers from `from` on, `from` below w: those up to the ring's end, and from place 0 on those that
-// lie beyond it.
+// Sets the places of `count` numbers from `from` on, `from` below w.
 pub fn set_span(marks: &mut [bool], w: usize, from: usize, count: usize, value: bool)
     requires { (w ≤ length marks.old) × (from < w) × (count ≤ w) }
     ensures { marks.new ≡ span_set w from count value marks.old }
 {
-    let over = (from + count).saturating_sub(w);
-    marks[from..from + count - over].fill(value);
-    marks[..over].fill(value);
+    let mut at = from;
+    for _ in 0..count {
+        marks[at] = value;
+        at = after(w, at);
+    }
 }

@@ -1,27 +1,17 @@
 -- Laws on rows of 16 cells.
 use Prim.Native.Nat.{ℕ, zero, suc, ◌+◌, ◌-◌, ◌*◌, ◌≤◌, ◌<◌}
-use mathlib.Core.Path.{◌≡◌, refl, sym, ◌∙◌, ap, ap₂}
-use mathlib.Core.Bool.{Bool, true, ◌&&◌, and-true}
-use mathlib.Core.List.{List, [], ◌∷◌, ◌++◌}
+use mathlib.Core.Path.{◌≡◌, sym, ◌∙◌, ap, ap₂}
+use mathlib.Core.Bool.{◌&&◌}
+use mathlib.Core.List.{List}
 use native.Mathlib.Numerals.{add-one}
 use native.Mathlib.Nat.{mul-add, mul-zero, mul-suc}
 use native.Mathlib.Omega.{arith}
-use lib.Bits.{bit_or}
-use lib.Dec.{eqb}
-use denote.Param.Members.{Mut}
-use denote.Ref.{Bor}
-use Rattle.std.specs.Fn.{Called}
-use Rattle.std.specs.Iterator.{Drains}
-use Rattle.std.specs.List.{FoldsTo}
-use Rattle.std.proofs.Common.{Iter}
-use Rattle.std.proofs.lemmas.Fn.{fronts, slice_gives, fold_over}
 use lib.ListN.{length, get_or, take, drop, length-take, length-drop}
 use lib.Seq.{ext_get_or, get_or-take, get_or-drop, take-add, drop-drop}
 use Rattle.limits.specs.Cells.{row_at, legal_cell, legal_row}
 use Rattle.limits.specs.Lists.{tab, all}
-use Rattle.limits.proofs.Laws.Cells.{none_or}
 use Rattle.limits.proofs.Laws.Choice.{split}
-use Rattle.limits.proofs.Laws.Lists.{all_append, all-next, is-tab}
+use Rattle.limits.proofs.Laws.Lists.{all_append, all-next}
 use Rattle.rows.specs.Arrays.{changed, from_to, pasted, written}
 use Rattle.rows.proofs.Laws.Changed.{length-changed, changed-at, changed-other, inside, below, above}
 
@@ -88,32 +78,3 @@ legal-part cells a b =
 -- one row
 pub legal-one : (cells : List ℕ) (at : ℕ) → all legal_cell (take (16 * at + 16 - 16 * at) (drop (16 * at) cells)) ≡ legal_row (row_at cells at)
 legal-one cells at = ap (λ n. all legal_cell (take n (drop (16 * at) cells))) {x = 16 * at + 16 - 16 * at} {y = 16} (omega arith)
-
--- a fold over a slice that keeps J of the elements so far and the value
-pub fold-keeps : {A F C : Type 0} (J : List A → C → Type 0) {g : Mut F (C × (Bor A × Unit {0})) C} {f : F} {s : Iter A} {a r : C}
-    → (xs : List (Bor A)) × (h : F) × Drains fronts s xs × FoldsTo {P = F × C} (λ p x q. Called g p.0 (p.1, (x, tt)) q.1 q.0) (f, a) xs (h, r)
-    → J [] a → ((ys : List A) (o : C) (x : Bor A) (b : C) (h : F) → J ys o → Called g f (o, (x, tt)) b h → J (ys ++ (x.now ∷ [])) b × (h ≡ f)) → J s.rest.now r
-fold-keeps J ran start step = fold_over fronts (λ y. y.now) _ J _ step _ _ _ _ (slice_gives _) start ran
-
--- tests of every element, gathered: no element, and one more
-pub tested-none : {A : Type 0} (p : A → Bool) → true ≡ all p []
-unfolding all
-tested-none p = refl
-
-pub tested-more : {A : Type 0} (p : A → Bool) (g r : Bool) (x : A) (xs : List A) → g ≡ all p xs → r ≡ (g && p x) → r ≡ all p (xs ++ (x ∷ []))
-unfolding all
-tested-more p g r x xs e q = q ∙ ap₂ ◌&&◌ e (sym (and-true (p x))) ∙ sym (all_append p xs (x ∷ []))
-
--- what cells have above the legal ones, gathered bit by bit: no cell, and one cell more
-pub gathered-none : eqb 0 0 ≡ all legal_cell []
-unfolding all
-gathered-none = refl
-
-pub gathered-more : (o e r c : ℕ) (cells : List ℕ) → eqb o 0 ≡ all legal_cell cells → eqb e 0 ≡ legal_cell c → r ≡ bit_or o e → eqb r 0 ≡ all legal_cell (cells ++ (c ∷ []))
-unfolding all
-gathered-more o e r c cells flag this q =
-    ap (λ n. eqb n 0) q ∙ none_or o e ∙ ap₂ ◌&&◌ flag (this ∙ sym (and-true (legal_cell c))) ∙ sym (all_append legal_cell cells (c ∷ []))
-
--- the front of a list by its elements
-pub front-tab : {A : Type 0} (xs : List A) (n : ℕ) (d : A) → n ≤ length xs → take n xs ≡ tab n (λ i. get_or xs i d)
-front-tab xs n d h = is-tab (take n xs) n (λ i. get_or xs i d) d (length-take n xs ∙ omega arith) (λ i k. get_or-take n xs i d k)

@@ -13,9 +13,9 @@ use Rattle.limits.specs.Lists.{tab, all}
 use Rattle.limits.specs.Questions.{pick}
 use Rattle.limits.specs.Ring.{distance}
 use Rattle.limits.proofs.Laws.Choice.{split, test, pick_yes, pick_no, and-no-left, and-no-right, both}
-use Rattle.limits.proofs.Laws.Lists.{split-tab, tab-ext, is-tab, all_append, all-tab-at}
+use Rattle.limits.proofs.Laws.Lists.{split-tab, tab-ext, all_append, all-tab-at}
 use Rattle.limits.proofs.Laws.Ring.{mod-once, distance-on, distance-round, distance-step, distance_is, place-distance, place-inj}
-use Rattle.rows.specs.Arrays.{changed, from_to, span_set}
+use Rattle.rows.specs.Arrays.{from_to, span_set}
 use Rattle.rows.proofs.Laws.Changed.{length-changed, changed-at, changed-other, changed-none, changed-more, inside, below, above}
 
 pub length-span : (w at count : ℕ) (value : Bool) (xs : List Bool) → length (span_set w at count value xs) ≡ length xs
@@ -68,42 +68,6 @@ next-below w at to h e = rw e (mod-lt (at + 1) (omega arith))
 pub span-turn-at : (w from i at : ℕ) (value : Bool) (xs ys : List Bool) → from < w → i < w → at ≡ (from + i) % w → ys ≡ span_set w from i value xs
     → set ys at value ≡ span_set w from (i + 1) value xs
 span-turn-at w from i at value xs ys h k q e = rw q (span-turn w from i value xs ys h k e)
-
--- the two parts of a span, filled one after the other
-pub span-filled : (w at count over : ℕ) (value : Bool) (xs ys zs : List Bool) → at < w → count ≤ w → w ≤ length xs → over ≡ at + count - w
-    → ys ≡ changed false (from_to at (at + count - over)) (λ p. value) xs → zs ≡ changed false (from_to 0 over) (λ p. value) ys → zs ≡ span_set w at count value xs
-unfolding span_set changed
-span-filled w at count over value xs ys zs h k l o y z =
-    is-tab zs (length xs) _ false (ap length z ∙ length-changed false _ _ ys ∙ long)
-    (λ p b. split w p
-    (λ s. behind p (omega arith) ∙ later p (omega arith) ∙ sym (pick_no _ _ _ _ (and-no-left (ltb p w) _ (le-ltb p w s)) refl))
-    (λ s. split at p
-    (λ t. let q = distance-on w at p t s in
-    split (at + count - over) p
-    (λ u. behind p (omega arith) ∙ later p u ∙ sym (pick_no _ _ _ _ (and-no-right (ltb p w) _ (le-ltb (distance w at p) count (omega arith))) refl))
-    (λ u. behind p (omega arith) ∙ filled p t u b ∙ sym (pick_yes _ _ _ _ (both _ _ (lt-ltb p w s) (lt-ltb (distance w at p) count (omega arith))) refl)))
-    (λ t. let q = distance-round w at p t h in
-    split over p
-    (λ u. behind p u ∙ before p t ∙ sym (pick_no _ _ _ _ (and-no-right (ltb p w) _ (le-ltb (distance w at p) count (omega arith))) refl))
-    (λ u. start p u b ∙ sym (pick_yes _ _ _ _ (both _ _ (lt-ltb p w s) (lt-ltb (distance w at p) count (omega arith))) refl)))))
-  where
-    long : length ys ≡ length xs
-    long = ap length y ∙ length-changed false _ _ xs
-
-    start : (p : ℕ) → p < over → p < length xs → get_or zs p false ≡ value
-    start p u b = ap (λ l. get_or l p false) z ∙ changed-at false (from_to 0 over) (λ _. value) ys p (let e = long in omega arith) (inside 0 over p (omega arith) u)
-
-    behind : (p : ℕ) → over ≤ p → get_or zs p false ≡ get_or ys p false
-    behind p u = ap (λ l. get_or l p false) z ∙ changed-other false (from_to 0 over) (λ _. value) ys p (above 0 over p u)
-
-    filled : (p : ℕ) → at ≤ p → p < at + count - over → p < length xs → get_or ys p false ≡ value
-    filled p t u b = ap (λ l. get_or l p false) y ∙ changed-at false (from_to at (at + count - over)) (λ _. value) xs p b (inside at (at + count - over) p t u)
-
-    before : (p : ℕ) → p < at → get_or ys p false ≡ get_or xs p false
-    before p t = ap (λ l. get_or l p false) y ∙ changed-other false (from_to at (at + count - over)) (λ _. value) xs p (below at (at + count - over) p t)
-
-    later : (p : ℕ) → at + count - over ≤ p → get_or ys p false ≡ get_or xs p false
-    later p t = ap (λ l. get_or l p false) y ∙ changed-other false (from_to at (at + count - over)) (λ _. value) xs p (above at (at + count - over) p t)
 
 module _ (w o d k : ℕ) (h : d < w) (j : k < w) where
   -- an array after a store at the place of number o + d, read at the place of number o + k

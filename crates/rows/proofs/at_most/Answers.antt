@@ -1,17 +1,20 @@
-use Prim.Native.Nat.{ℕ}
 use lib.Dec.{leb}
-use lib.ListN.{take}
-use mathlib.Core.Path.{◌≡◌, ◌∙◌, ap}
+use lib.ListN.{length-take}
+use lib.Seq.{get_or-take}
+use mathlib.Core.Bool.{◌&&◌}
+use mathlib.Core.Path.{ap}
 use native.Mathlib.Omega.{arith}
-use Rattle.limits.specs.Lists.{all}
-use Rattle.std.proofs.Common.{rules}
-use Rattle.rows.proofs.Laws.Cells.{fold-keeps, tested-none, tested-more, front-tab}
+use Rattle.limits.proofs.Laws.Lists.{flag-start, flag-turn, flag-end}
 use Rattle.rows.proofs.at_most.Goals as goal
 
-pub returns : goal.returns
-returns c =
+pub loop-x-init : goal.loop-x-init
+loop-x-init c = flag-start _ _
+
+pub loop-x-preserved : goal.loop-x-preserved
+loop-x-preserved c =
     let a = c.args in
-    let p = λ (x : ℕ). leb x a.most in
-    let part : c.iter.result.rest.now ≡ take a.n a.xs.now = search rules in
-    fold-keeps (λ ys g. g ≡ all p ys) c.fold.ensures.ran (tested-none p) (λ ys g x r f e q. (tested-more p g r x.now ys e (search rules), search rules))
-    ∙ ap (all p) (part ∙ front-tab a.xs.now a.n 0 (omega arith))
+    let n = length-take a.n a.xs.now in
+    flag-turn _ _ _ _ _ c.loop-x.invariant (ap (λ x. c.loop-x.good && leb x a.most) (get_or-take a.n a.xs.now c.loop-x.x-index 0 (omega arith)))
+
+pub returns : goal.returns
+returns c = let n = length-take c.args.n c.args.xs.now in flag-end _ _ _ _ _ c.loop-x.invariant (omega arith)

@@ -1,16 +1,16 @@
-use lib.Dec.{eqb}
-use lib.ListN.{take, drop}
-use mathlib.Core.Path.{◌≡◌, ◌∙◌, ap}
-use Prim.Native.Nat.{◌-◌}
+use mathlib.Core.Path.{refl, ◌∙◌, ap}
+use native.Mathlib.Omega.{arith}
 use Rattle.limits.specs.Cells.{legal_cell}
 use Rattle.limits.specs.Lists.{all}
-use Rattle.std.proofs.Common.{rules}
-use Rattle.rows.proofs.Laws.Cells.{fold-keeps, gathered-none, gathered-more}
+use Rattle.limits.proofs.Laws.Cells.{gather-turn}
+use Rattle.limits.proofs.Laws.Lists.{flag-start, flag-end, tab-self}
 use Rattle.rows.proofs.legal_cells.Goals as goal
 
+pub loop-cell-init : goal.loop-cell-init
+loop-cell-init c = flag-start _ _
+
+pub loop-cell-preserved : goal.loop-cell-preserved
+loop-cell-preserved c = gather-turn _ _ _ _ c.loop-cell.invariant c.excess-over.ensures
+
 pub returns : goal.returns
-returns c =
-    let a = c.args in
-    let part : c.iter.result.rest.now ≡ take (a.to - a.from) (drop a.from a.cells.now) = search rules in
-    fold-keeps (λ ys o. eqb o 0 ≡ all legal_cell ys) c.fold.ensures.ran gathered-none (λ ys o x r f e q. (search (rules, gathered-more), search rules))
-    ∙ ap (all legal_cell) part
+returns c = flag-end _ _ _ _ _ c.loop-cell.invariant (omega arith) ∙ ap (all legal_cell) (tab-self _ _ 0 refl)
