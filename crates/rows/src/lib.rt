@@ -102,7 +102,7 @@ pub fn fall(xs: &mut [u16; 32], n: usize, d: u16)
     requires { n ≤ 32 }
     ensures { xs.new ≡ fallen n d xs.old }
 {
-    for x in xs[..n].iter_mut() {
+    for x in &mut xs[..n] {
         *x = x.saturating_sub(d);
     }
 }
@@ -115,7 +115,7 @@ pub fn close(xs: &mut [u16], at: usize, width: usize, end: usize)
     xs.copy_within(at + width..end, at);
 }
 
-// Writes x at place `at`. Takes a slice, since a lent array shows its length to a proof only where it is lent on as a slice.
+// Writes x at place `at`.
 pub fn set(xs: &mut [u16], at: usize, x: u16)
     requires { at < length xs.old }
     ensures { xs.new ≡ set xs.old at x }
