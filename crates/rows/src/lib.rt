@@ -14,12 +14,8 @@ pub fn read(cells: &[u16], at: usize) -> [u16; 16]
     requires { at + 16 ≤ length cells.now }
     ensures { result ≡ take 16 (drop at cells.now) }
 {
-    let mut row = [0u16; 16];
-    let mut i = 0;
-    while i < 16 {
-        row[i] = cells[at + i];
-        i += 1;
-    }
+    let mut row = [0; 16];
+    row.copy_from_slice(&cells[at..at + 16]);
     row
 }
 
@@ -27,11 +23,7 @@ pub fn copy(xs: &mut [u16], at: usize, words: &[u16])
     requires { at + length words.now ≤ length xs.old }
     ensures { xs.new ≡ pasted at words.now xs.old }
 {
-    let mut i = 0;
-    while i < words.len() {
-        xs[at + i] = words[i];
-        i += 1;
-    }
+    xs[at..at + words.len()].copy_from_slice(words);
 }
 
 pub fn write(cells: &mut [u16], at: usize, row: [u16; 16])
@@ -48,25 +40,22 @@ pub fn load(cells: &[u16; 512], place: usize) -> [u16; 16]
     read(cells, 16 * place)
 }
 
-// Both, with no branch: a loop that gathers its tests so looks at every entry and leaves at its end only, which makes it vector
-// code.
+// Both, with no branch.
 pub fn both(a: bool, b: bool) -> bool
     ensures { result ≡ (a && b) }
 {
     a & b
 }
 
-// Whether the cells from `from` to before `to` are legal.
+// Whether the cells from `from` to before `to` are legal. This and the two tests below look at every entry and leave at the end
+// only, which makes them vector code.
 pub fn legal_cells(cells: &[u16], from: usize, to: usize) -> bool
     requires { (from ≤ to) × (to ≤ length cells.now) }
     ensures { result ≡ all legal_cell (take (to - from) (drop from cells.now)) }
 {
-    let count = to - from;
-    let mut over = 0u16;
-    let mut i = 0;
-    while i < count {
-        over = over | limits::cells::excess(cells[from + i]);
-        i += 1;
+    let mut over = 0;
+    for cell in &cells[from..to] {
+        over |= limits::cells::excess(*cell);
     }
     over == 0
 }
@@ -83,10 +72,8 @@ pub fn at_most(xs: &[u16; 32], n: usize, most: u16) -> bool
     ensures { result ≡ all (λ x. leb x most) (tab n (λ i. get_or xs.now i 0)) }
 {
     let mut good = true;
-    let mut i = 0;
-    while i < n {
-        good = both(good, xs[i] <= most);
-        i += 1;
+    for x in &xs[..n] {
+        good &= *x <= most;
     }
     good
 }
@@ -96,27 +83,18 @@ pub fn none_set(marks: &[bool], from: usize, to: usize) -> bool
     requires { (from ≤ to) × (to ≤ length marks.now) }
     ensures { result ≡ all not (tab (to - from) (λ i. get_or marks.now (from + i) false)) }
 {
-    let count = to - from;
     let mut good = true;
-    let mut i = 0;
-    while i < count {
-        good = both(good, !marks[from + i]);
-        i += 1;
+    for mark in &marks[from..to] {
+        good &= !*mark;
     }
     good
-}
-
-pub fn less(x: u16, d: u16) -> u16
-    ensures { result ≡ x - d }
-{
-    if d <= x { x - d } else { 0 }
 }
 
 // How far x lies beyond w.
 pub fn beyond(w: usize, x: usize) -> usize
     ensures { result ≡ x - w }
 {
-    if w <= x { x - w } else { 0 }
+    x.saturating_sub(w)
 }
 
 // The first `n` entries fall by `d` and stop at 0.
@@ -124,10 +102,8 @@ pub fn fall(xs: &mut [u16; 32], n: usize, d: u16)
     requires { n ≤ 32 }
     ensures { xs.new ≡ fallen n d xs.old }
 {
-    let mut i = 0;
-    while i < n {
-        xs[i] = less(xs[i], d);
-        i += 1;
+    for x in &mut xs[..n] {
+        *x = x.saturating_sub(d);
     }
 }
 
@@ -136,15 +112,10 @@ pub fn close(xs: &mut [u16], at: usize, width: usize, end: usize)
     requires { (at + width ≤ end) × (end ≤ length xs.old) }
     ensures { xs.new ≡ closed at width end xs.old }
 {
-    let last = end - width;
-    let mut i = at;
-    while i < last {
-        xs[i] = xs[i + width];
-        i += 1;
-    }
+    xs.copy_within(at + width..end, at);
 }
 
-// Writes x at place `at`. Takes a slice, since a lent array shows its length to a proof only where it is lent on as a slice.
+// Writes x at place `at`.
 pub fn set(xs: &mut [u16], at: usize, x: u16)
     requires { at < length xs.old }
     ensures { xs.new ≡ set xs.old at x }
@@ -166,10 +137,8 @@ pub fn set_span(marks: &mut [bool], w: usize, from: usize, count: usize, value: 
     ensures { marks.new ≡ span_set w from count value marks.old }
 {
     let mut at = from;
-    let mut i = 0;
-    while i < count {
+    for _ in 0..count {
         marks[at] = value;
         at = after(w, at);
-        i += 1;
     }
 }

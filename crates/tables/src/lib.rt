@@ -32,19 +32,14 @@ fn lower(words: &mut [u16], width: usize, from: usize, count: usize, d: u16) -> 
     ensures { (result ≡ leading (outlives d) (tab (count - from) (λ i. message_at width words.old (from + i))))
         × Lowered width d from (from + result) words.old words.new }
 {
-    let mut at = width * from;
-    let mut i = from;
-    while i < count {
-        let life = words[at];
-        if d < life {
-            words[at] = life - d;
-            at += width;
-            i += 1;
-        } else {
+    for i in from..count {
+        let life = words[width * i];
+        if life <= d {
             return i - from;
         }
+        words[width * i] = life - d;
     }
-    i - from
+    count - from
 }
 
 // The run of n messages from `from` on moves down to place `to` as a whole. The run before the first message that goes stays.
@@ -65,6 +60,7 @@ pub fn age(words: &mut [u16], width: usize, count: usize, d: u16) -> usize
 {
     let mut kept = 0;
     let mut i = 0;
+    // Stays (no plainer): a turn goes on by the run that was lowered, not by one message.
     while i < count {
         let n = lower(words, width, i, count, d);
         slide(words, width, i, kept, n);

@@ -21,16 +21,6 @@ length_part cells at h = length-take 16 (drop at cells) ∙ (let l = length-drop
 pub length-row_at : (cells : List ℕ) (p : ℕ) → length cells ≡ 512 → p < 32 → length (row_at cells p) ≡ 16
 length-row_at cells p l h = length_part cells (16 * p) (omega arith)
 
--- the loop that reads a row has read it
-pub read_done : (cells row row₀ : List ℕ) (at : ℕ) → at + 16 ≤ length cells → length row₀ ≡ 16
-    → row ≡ changed 0 (from_to 0 16) (λ k. get_or cells (at + k) 0) row₀ → row ≡ take 16 (drop at cells)
-read_done cells row row₀ at h l e =
-    e
-    ∙ ext_get_or 0 _ (take 16 (drop at cells)) (length-changed 0 _ _ row₀ ∙ l ∙ sym (length_part cells at h))
-    (λ i k. let n = length-changed 0 (from_to 0 16) (λ k. get_or cells (at + k) 0) row₀ in
-    changed-at 0 _ _ row₀ i (omega arith) (inside 0 16 i (omega arith) (omega arith))
-    ∙ sym (get_or-take 16 (drop at cells) i 0 (omega arith) ∙ get_or-drop at cells i 0))
-
 pub length-written : (at : ℕ) (row cells : List ℕ) → length (written at row cells) ≡ length cells
 unfolding written
 length-written at row cells = length-changed 0 _ _ cells

@@ -2,11 +2,12 @@
 use Prim.Native.Nat.{ℕ, ◌+◌, ◌-◌, ◌≤◌, ◌<◌}
 use mathlib.Core.Path.{◌≡◌, refl, sym, ◌∙◌, ap}
 use mathlib.Core.Bool.{Bool, true, false, ◌&&◌}
-use mathlib.Core.List.{List}
+use mathlib.Core.List.{List, ◌++◌}
 use native.Mathlib.Omega.{arith}
 use lib.Dec.{leb, ltb, eqb}
-use lib.ListN.{length, get_or, set, length-set, get_or-eq_default}
-use lib.Seq.{get_or-set_same, get_or-set_other}
+use lib.ListN.{length, get_or, take, drop, set, length-set, length-append, length-take, length-drop, get_or-append, get_or-eq_default}
+use lib.Seq.{get_or-set_same, get_or-set_other, get_or-take, get_or-drop, get_or-append_right}
+use borrow.Rule.Slice.PartMut.{put_mid, same_len_mid}
 use borrow.Author.Tests.{lt-ltb, le-ltb, le-leb, lt-leb, eqb-true, eqb-false}
 use Rattle.limits.specs.Questions.{pick}
 use Rattle.limits.proofs.Laws.Choice.{pick_yes, pick_no, both, and-no-left, and-no-right, split, test}
@@ -58,6 +59,10 @@ below a b i h = and-no-left (leb a i) (ltb i b) (lt-leb a i h)
 pub above : (a b i : ℕ) → b ≤ i → from_to a b i ≡ false
 above a b i h = and-no-right (leb a i) (ltb i b) (le-ltb i b h)
 
+-- a list of which the part from a to before b is written keeps its length
+pub put-length : {A : Type 0} (xs : List A) (a b : ℕ) (ys : List A) → a ≤ b → b ≤ length xs → length ys ≡ b - a → length (put_mid a (b - a) xs ys) ≡ length xs
+put-length xs a b ys h k l = same_len_mid a (b - a) xs ys (l ∙ sym (length-take (b - a) (drop a xs) ∙ (let e = length-drop a xs in omega arith)))
+
 module _ {A : Type 0} (d : A) (new : ℕ → A) (xs : List A) where
   pub range_none : (a : ℕ) → changed d (from_to a a) new xs ≡ xs
   range_none a = changed-none d (from_to a a) new xs (λ i h. split a i (λ k. above a a i k) (λ k. below a a i k))
@@ -74,12 +79,44 @@ module _ {A : Type 0} (d : A) (new : ℕ → A) (xs : List A) where
       → set ys b v ≡ changed d (from_to a (b + 1)) new xs
   range-turn a b ys v e h q = rw (e, q) (range-more a b h)
 
-  pub range-keeps : (a b k : ℕ) (ys : List A) → ys ≡ changed d (from_to a b) new xs → b ≤ k → get_or ys k d ≡ get_or xs k d
-  range-keeps a b k ys e h = ap (λ l. get_or l k d) e ∙ changed-other d (from_to a b) new xs k (above a b k h)
+  -- by index
+  pub is-range : (a b : ℕ) (ys : List A) → length ys ≡ length xs → ((i : ℕ) → a ≤ i → i < b → get_or ys i d ≡ new i)
+      → ((i : ℕ) → i < a → get_or ys i d ≡ get_or xs i d) → ((i : ℕ) → b ≤ i → get_or ys i d ≡ get_or xs i d) → ys ≡ changed d (from_to a b) new xs
+  unfolding changed
+  is-range a b ys l part low high =
+      is-tab ys (length xs) _ d l
+      (λ i h. split a i
+      (λ s. split b i
+      (λ t. high i t ∙ sym (pick_no _ _ _ _ (above a b i t) refl))
+      (λ t. part i s t ∙ sym (pick_yes _ _ _ _ (inside a b i s t) refl)))
+      (λ s. low i s ∙ sym (pick_no _ _ _ _ (below a b i s) refl)))
 
-  -- the loop's end
-  pub range-end : (a b b' : ℕ) (ys : List A) → ys ≡ changed d (from_to a b) new xs → b ≡ b' → ys ≡ changed d (from_to a b') new xs
-  range-end a b b' ys e q = rw q at e
+  -- the part from a to before b, written as a whole
+  pub put-range : (a b : ℕ) (ys : List A) → a ≤ b → b ≤ length xs → length ys ≡ b - a → ((i : ℕ) → i < b - a → get_or ys i d ≡ new (a + i))
+      → put_mid a (b - a) xs ys ≡ changed d (from_to a b) new xs
+  put-range a b ys h k l e =
+      is-range a b (put_mid a (b - a) xs ys) (put-length xs a b ys h k l)
+      (λ i s t. behind i s ∙ get_or-append ys rest d (i - a) (omega arith) ∙ e (i - a) (omega arith) ∙ ap new (omega arith))
+      (λ i s. get_or-append (take a xs) (ys ++ rest) d i (let f = front in omega arith) ∙ get_or-take a xs i d s)
+      (λ i s. behind i (omega arith) ∙ get_or-append_right ys rest (i - a) d (omega arith)
+      ∙ get_or-drop (b - a) (drop a xs) (i - a - length ys) d ∙ get_or-drop a xs (b - a + (i - a - length ys)) d ∙ ap (λ j. get_or xs j d) (omega arith))
+    where
+      rest : List A
+      rest = drop (b - a) (drop a xs)
+
+      front : length (take a xs) ≡ a
+      front = length-take a xs ∙ omega arith
+
+      behind : (i : ℕ) → a ≤ i → get_or (take a xs ++ (ys ++ rest)) i d ≡ get_or (ys ++ rest) (i - a) d
+      behind i s = let f = front in get_or-append_right (take a xs) (ys ++ rest) i d (omega arith) ∙ ap (λ j. get_or (ys ++ rest) j d) (omega arith)
+
+  -- and the part below b
+  pub put-front : (b : ℕ) (ys : List A) → b ≤ length xs → length ys ≡ b → ((i : ℕ) → i < b → get_or ys i d ≡ new i) → ys ++ drop b xs ≡ changed d (from_to 0 b) new xs
+  put-front b ys k l e =
+      is-range 0 b (ys ++ drop b xs) (length-append ys (drop b xs) ∙ (let n = length-drop b xs in omega arith))
+      (λ i s t. get_or-append ys (drop b xs) d i (omega arith) ∙ e i t)
+      (λ i s. absurd (omega arith))
+      (λ i s. get_or-append_right ys (drop b xs) i d (omega arith) ∙ get_or-drop b xs (i - length ys) d ∙ ap (λ j. get_or xs j d) (omega arith))
 
   pub range-start : (a a' : ℕ) → a' ≡ a → xs ≡ changed d (from_to a a') new xs
   range-start a a' q = rw q (sym (range_none a))

@@ -69,9 +69,6 @@ pub span-turn-at : (w from i at : ℕ) (value : Bool) (xs ys : List Bool) → fr
     → set ys at value ≡ span_set w from (i + 1) value xs
 span-turn-at w from i at value xs ys h k q e = rw q (span-turn w from i value xs ys h k e)
 
-pub span-end : (w from i count : ℕ) (value : Bool) (xs ys : List Bool) → ys ≡ span_set w from i value xs → i ≡ count → ys ≡ span_set w from count value xs
-span-end w from i count value xs ys e q = rw q at e
-
 module _ (w o d k : ℕ) (h : d < w) (j : k < w) where
   -- an array after a store at the place of number o + d, read at the place of number o + k
   pub set-place : {A : Type 0} (xs : List A) (v e : A) → w ≤ length xs → get_or (set xs ((o + d) % w) v) ((o + k) % w) e ≡ pick (eqb k d) v (get_or xs ((o + k) % w) e)

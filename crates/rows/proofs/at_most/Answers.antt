@@ -1,25 +1,20 @@
-use Rattle.limits.proofs.Laws.Lists.{flag-start, flag-turn, flag-end}
+use lib.Dec.{leb}
+use lib.ListN.{length-take}
+use lib.Seq.{get_or-take}
+use mathlib.Core.Bool.{◌&&◌}
+use mathlib.Core.Path.{ap}
 use native.Mathlib.Omega.{arith}
-use Rattle.std.proofs.Common.{rules}
+use Rattle.limits.proofs.Laws.Lists.{flag-start, flag-turn, flag-end}
 use Rattle.rows.proofs.at_most.Goals as goal
 
-pub loop-i-init : goal.loop-i-init
-loop-i-init c = (search rules, flag-start _ _)
+pub loop-x-init : goal.loop-x-init
+loop-x-init c = flag-start _ _
 
-pub offset_bounds-xs-i : goal.offset_bounds-xs-i
-offset_bounds-xs-i c = omega arith
-
-pub bounds-xs-i : goal.bounds-xs-i
-bounds-xs-i c = omega arith
-
-pub overflow_add-i : goal.overflow_add-i
-overflow_add-i c = omega arith
-
-pub loop-i-smaller : goal.loop-i-smaller
-loop-i-smaller c = omega arith
-
-pub loop-i-preserved : goal.loop-i-preserved
-loop-i-preserved c = (omega arith, flag-turn _ _ _ _ _ c.loop-i.invariant.1 c.both-good.ensures)
+pub loop-x-preserved : goal.loop-x-preserved
+loop-x-preserved c =
+    let a = c.args in
+    let n = length-take a.n a.xs.now in
+    flag-turn _ _ _ _ _ c.loop-x.invariant (ap (λ x. c.loop-x.good && leb x a.most) (get_or-take a.n a.xs.now c.loop-x.x-index 0 (omega arith)))
 
 pub returns : goal.returns
-returns c = flag-end _ _ _ _ _ c.loop-i.invariant.1 (omega arith)
+returns c = let n = length-take c.args.n c.args.xs.now in flag-end _ _ _ _ _ c.loop-x.invariant (omega arith)

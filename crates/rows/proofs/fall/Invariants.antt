@@ -1,11 +1,10 @@
-use Rattle.rows.specs.Arrays.{changed, from_to}
 use lib.ListN.{length, get_or}
 use mathlib.Core.Path.{◌≡◌}
-use Prim.Native.Nat.{◌-◌, ◌≤◌}
+use Prim.Native.Nat.{ℕ, ◌-◌, ◌≤◌, ◌<◌}
 use Rattle.rows.proofs.fall.Given as goal
 
-abbrev pub invariant-loop-i : goal.invariant-loop-i
-invariant-loop-i l = (l.i ≤ l.n) × (length l.xs ≡ length l.initial.xs) × (l.xs ≡ changed 0 (from_to 0 l.i) (λ k. get_or l.initial.xs k 0 - l.d) l.initial.xs)
-
-abbrev pub decreases-loop-i : goal.decreases-loop-i
-decreases-loop-i l = l.n - l.i
+abbrev pub invariant-loop-x : goal.invariant-loop-x
+invariant-loop-x l =
+    (length l.x-items ≡ l.n)
+    × ((k : ℕ) → k < l.x-index → get_or l.x-items k 0 ≡ get_or l.fn.xs k 0 - l.d)
+    × ((k : ℕ) → l.x-index ≤ k → k < l.n → get_or l.x-items k 0 ≡ get_or l.fn.xs k 0)

@@ -1,28 +1,26 @@
-use Rattle.limits.proofs.Laws.Lists.{flag-start, flag-turn, flag-end}
+use Prim.Native.Nat.{◌-◌}
+use lib.ListN.{drop, length-take, length-drop}
+use lib.Seq.{get_or-take, get_or-drop}
+use mathlib.Core.Bool.{false, not, ◌&&◌}
+use mathlib.Core.Path.{◌∙◌, ap}
 use native.Mathlib.Omega.{arith}
-use Rattle.std.proofs.Common.{rules}
+use Rattle.limits.proofs.Laws.Lists.{flag-start, flag-turn, flag-end}
 use Rattle.rows.proofs.none_set.Goals as goal
 
-pub overflow_sub-count : goal.overflow_sub-count
-overflow_sub-count c = omega arith
+pub loop-mark-init : goal.loop-mark-init
+loop-mark-init c = flag-start _ _
 
-pub loop-i-init : goal.loop-i-init
-loop-i-init c = (search rules, search rules, flag-start _ _)
-
-pub overflow_add-from : goal.overflow_add-from
-overflow_add-from c = omega arith
-
-pub bounds-marks-from : goal.bounds-marks-from
-bounds-marks-from c = omega arith
-
-pub overflow_add-i : goal.overflow_add-i
-overflow_add-i c = omega arith
-
-pub loop-i-smaller : goal.loop-i-smaller
-loop-i-smaller c = omega arith
-
-pub loop-i-preserved : goal.loop-i-preserved
-loop-i-preserved c = (omega arith, search rules, flag-turn _ _ _ _ _ c.loop-i.invariant.2 c.both-good.ensures)
+pub loop-mark-preserved : goal.loop-mark-preserved
+loop-mark-preserved c =
+    let a = c.args in
+    let n = length-take (a.to - a.from) (drop a.from a.marks.now) in
+    flag-turn _ _ _ _ _ c.loop-mark.invariant
+    (ap (λ b. c.loop-mark.good && not b)
+    (get_or-take (a.to - a.from) (drop a.from a.marks.now) c.loop-mark.mark-index false (omega arith) ∙ get_or-drop a.from a.marks.now c.loop-mark.mark-index false))
 
 pub returns : goal.returns
-returns c = flag-end _ _ _ _ _ c.loop-i.invariant.2 (omega arith)
+returns c =
+    let a = c.args in
+    let n = length-take (a.to - a.from) (drop a.from a.marks.now) in
+    let m = length-drop a.from a.marks.now in
+    flag-end _ _ _ _ _ c.loop-mark.invariant (omega arith)

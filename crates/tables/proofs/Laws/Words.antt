@@ -76,53 +76,46 @@ pub record Lowering (w d from i : ℕ) (old now : List ℕ) : Type 0 where
   pub lowered : Lowered w d from i old now
   pub enough : (p : ℕ) → from ≤ p → p < i → outlives d (message_at w old p) ≡ true
 
-pub lowering-start : (w d from : ℕ) (old : List ℕ) → Lowering w d from from old old
-lowering-start w d from old =
-    record {
-      lowered = record { size = refl; low = λ k h. refl; done = λ p a b. absurd (omega arith); rest = λ k h. refl };
-      enough = λ p a b. absurd (omega arith);
-    }
-
 module _ (w d from : ℕ) (old now : List ℕ) where
-  pub lowering-turn : (i at v : ℕ) → 1 ≤ w → from ≤ i → w * i + w ≤ length old → Lowering w d from i old now → at ≡ w * i → d < get_or now at 0 → v ≡ get_or now at 0 - d
-      → Lowering w d from (i + 1) old (set now at v)
-  lowering-turn i at v some past fits inv here more e =
+  pub lowering-turn : (i v : ℕ) → 1 ≤ w → from ≤ i → w * i + w ≤ length old → Lowering w d from i old now → d < get_or now (w * i) 0 → v ≡ get_or now (w * i) 0 - d
+      → Lowering w d from (i + 1) old (set now (w * i) v)
+  lowering-turn i v some past fits inv more e =
       record {
         lowered =
             record {
-              size = length-set now at v ∙ inv.lowered.size;
-              low = λ k h. let q = starts_by w from i past in get_or-set_other now at k v 0 (λ z. omega arith) ∙ inv.lowered.low k h;
+              size = length-set now (w * i) v ∙ inv.lowered.size;
+              low = λ k h. let q = starts_by w from i past in get_or-set_other now (w * i) k v 0 (λ z. omega arith) ∙ inv.lowered.low k h;
               done = λ p a h. split i p
-                  (λ o. ap (λ n. message_at w (set now at v) n) {x = p} {y = i} (omega arith) ∙ this ∙ ap (λ n. aged d (message_at w old n)) {x = i} {y = p} (omega arith))
+                  (λ o. ap (λ n. message_at w (set now (w * i) v) n) {x = p} {y = i} (omega arith) ∙ this ∙ ap (λ n. aged d (message_at w old n)) {x = i} {y = p} (omega arith))
                   (λ o. entry-ext w _ _ some
-                  (λ k b. let q = ends_by w p i o in get_or-set_other now at (w * p + k) v 0 (λ z. omega arith)) ∙ inv.lowered.done p a o);
-              rest = λ k h. let q = next-starts w i in get_or-set_other now at k v 0 (λ z. omega arith) ∙ inv.lowered.rest k (omega arith);
+                  (λ k b. let q = ends_by w p i o in get_or-set_other now (w * i) (w * p + k) v 0 (λ z. omega arith)) ∙ inv.lowered.done p a o);
+              rest = λ k h. let q = next-starts w i in get_or-set_other now (w * i) k v 0 (λ z. omega arith) ∙ inv.lowered.rest k (omega arith);
             };
         enough = λ p a h. split i p (λ o. ap (λ n. outlives d (message_at w old n)) {x = p} {y = i} (omega arith) ∙ ap (ltb d) life ∙ lt-ltb d _ more) (λ o. inv.enough p a o);
       }
     where
-      life : (message_at w old i).life ≡ get_or now at 0
-      life = life-at w old i ∙ ap (λ j. get_or old j 0) (sym here) ∙ sym (inv.lowered.rest at (omega arith))
+      life : (message_at w old i).life ≡ get_or now (w * i) 0
+      life = life-at w old i ∙ sym (inv.lowered.rest (w * i) (omega arith))
 
-      this : message_at w (set now at v) i ≡ aged d (message_at w old i)
+      this : message_at w (set now (w * i) v) i ≡ aged d (message_at w old i)
       this =
           entry-aged w d _ _
-          (ap (λ j. get_or (set now at v) j 0) {x = w * i + 0} {y = at} (omega arith)
-          ∙ get_or-set_same now at v 0 (let s = inv.lowered.size in omega arith)
+          (ap (λ j. get_or (set now (w * i) v) j 0) {x = w * i + 0} {y = w * i} (omega arith)
+          ∙ get_or-set_same now (w * i) v 0 (let s = inv.lowered.size in omega arith)
           ∙ e
-          ∙ ap (◌- d) (inv.lowered.rest at (omega arith) ∙ ap (λ j. get_or old j 0) {x = at} {y = w * i + 0} (omega arith)))
-          (λ k b. get_or-set_other now at (w * i + (k + 1)) v 0 (λ z. omega arith) ∙ inv.lowered.rest (w * i + (k + 1)) (omega arith))
+          ∙ ap (◌- d) (inv.lowered.rest (w * i) (omega arith) ∙ ap (λ j. get_or old j 0) {x = w * i} {y = w * i + 0} (omega arith)))
+          (λ k b. get_or-set_other now (w * i) (w * i + (k + 1)) v 0 (λ z. omega arith) ∙ inv.lowered.rest (w * i + (k + 1)) (omega arith))
 
   -- message i is the first that does not outlive d, or there is none such
-  pub lowering-end : (count i at : ℕ) → from ≤ i → i ≤ count → at ≡ w * i → Lowering w d from i old now → (i < count → get_or now at 0 ≤ d)
+  pub lowering-end : (count i : ℕ) → from ≤ i → i ≤ count → Lowering w d from i old now → (i < count → get_or now (w * i) 0 ≤ d)
       → (i - from ≡ leading (outlives d) (tab (count - from) (λ k. message_at w old (from + k)))) × Lowered w d from (from + (i - from)) old now
-  lowering-end count i at a b e inv stop = (
+  lowering-end count i a b inv stop = (
     sym
         (leading-is (outlives d) (count - from) (λ k. message_at w old (from + k)) (i - from) (omega arith)
         (λ k h. inv.enough (from + k) (omega arith) (omega arith))
         (λ h. ap (λ p. outlives d (message_at w old p)) {x = from + (i - from)} {y = i} (omega arith)
-        ∙ ap (ltb d) (life-at w old i ∙ ap (λ j. get_or old j 0) (sym e) ∙ sym (inv.lowered.rest at (omega arith)))
-        ∙ le-ltb d (get_or now at 0) (stop (omega arith)))),
+        ∙ ap (ltb d) (life-at w old i ∙ sym (inv.lowered.rest (w * i) (omega arith)))
+        ∙ le-ltb d (get_or now (w * i) 0) (stop (omega arith)))),
     (let q : from + (i - from) ≡ i = omega arith in rw q inv.lowered),
   )
 

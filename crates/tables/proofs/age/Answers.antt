@@ -6,9 +6,6 @@ use Rattle.tables.proofs.age.Goals as goal
 pub loop-i-init : goal.loop-i-init
 loop-i-init c = gathered-start _ _ _ _
 
-pub lower-n-requires : goal.lower-n-requires
-lower-n-requires c = (omega arith, omega arith, omega arith)
-
 pub slide-requires : goal.slide-requires
 slide-requires c =
     let v = c.lower-n in
@@ -36,16 +33,10 @@ overflow_add-i-in-loop-i c =
     let f = run_fits c.args.width c.args.d c.args.count c.loop-i.i v.result c.loop-i.words (omega arith) v.ensures.0 in
     omega arith
 
-pub loop-i-smaller : goal.loop-i-smaller
-loop-i-smaller c = omega arith
-
 pub loop-i-preserved : goal.loop-i-preserved
 loop-i-preserved c =
     let v = c.lower-n.ensures in
     gathered-turn _ _ _ _ _ _ _ _ _ _ c.requires.0 (omega arith) c.requires.1 c.loop-i.invariant v.0 v.1 c.slide.ensures
-
-pub shape_of-words : goal.shape_of-words
-shape_of-words c = c.loop-i.invariant.size
 
 pub returns : goal.returns
 returns c = gathered-end _ _ _ _ _ _ _ (omega arith) c.loop-i.invariant

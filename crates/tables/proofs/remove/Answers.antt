@@ -2,9 +2,6 @@ use native.Mathlib.Omega.{arith}
 use Rattle.tables.proofs.Laws.Words.{ends_by, remove-words}
 use Rattle.tables.proofs.remove.Goals as goal
 
-pub overflow_mul-width : goal.overflow_mul-width
-overflow_mul-width c = let b = c in let e = ends_by b.args.width b.args.p b.args.count b.requires.1 in omega arith
-
 pub close-requires : goal.close-requires
 close-requires c = let b = c in let e = ends_by b.args.width b.args.p b.args.count b.requires.1 in (omega arith, omega arith)
 
