@@ -1,5 +1,5 @@
 use Rattle.std.proofs.Common.{rules}
-use Rattle.frames.proofs.Laws.Cells.{made}
+use Rattle.limits.proofs.Laws.Made.{made}
 use Rattle.frames.specs.Layout.{cell_at}
 use Rattle.frames.proofs.cells_of.Goals as goal
 
