@@ -7,17 +7,20 @@ ghost use Rattle.clinks.specs.Links.{is_on, bit, limits_at, numbers_at, head_of}
 
 use events::moves::Numbers;
 use limits::Limits;
+use std::array;
 
 pub fn marks_of(xs: [u16; 32]) -> [bool; 32]
     ensures { result ≡ map is_on xs }
 {
-    xs.map(|x| x != 0)
+    // Stays (speed): an array's `map` takes some 20 instructions more an element.
+    array::from_fn(|k| xs[k] != 0)
 }
 
 pub fn bits_of(marks: [bool; 32]) -> [u16; 32]
     ensures { result ≡ map bit marks }
 {
-    marks.map(u16::from)
+    // Stays (speed): as in `marks_of`.
+    array::from_fn(|k| u16::from(marks[k]))
 }
 
 pub fn limits_of(h: [u16; 10]) -> Limits

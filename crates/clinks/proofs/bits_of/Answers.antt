@@ -1,9 +1,12 @@
-use Rattle.std.proofs.Common.{rules, false}
-use Rattle.limits.specs.Questions.{pick}
-use Rattle.limits.proofs.Laws.Made.{mapped}
+use mathlib.Core.Bool.{false}
+use mathlib.Core.Path.{◌∙◌}
+use lib.ListN.{get_or}
+use Rattle.std.proofs.Common.{rules}
+use Rattle.limits.proofs.Laws.Made.{made}
 use Rattle.clinks.specs.Links.{bit}
+use Rattle.clinks.proofs.Laws.Links.{all_read, bit-of}
 use Rattle.clinks.proofs.bits_of.Goals as goal
 
 pub returns : goal.returns
-unfolding pick
-returns c = mapped _ bit _ (λ x y c' call. search rules) c.args.marks _ 32 false (search rules) c.map.ensures.items
+returns c =
+    made _ (λ k. bit (get_or c.args.marks k false)) _ (λ k x c' call. search (rules, bit-of)) _ 32 c.from_fn.ensures.items ∙ all_read bit false c.args.marks 32 (search rules)

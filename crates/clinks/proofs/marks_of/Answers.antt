@@ -1,7 +1,11 @@
+use mathlib.Core.Path.{◌∙◌}
+use lib.ListN.{get_or}
 use Rattle.std.proofs.Common.{rules}
-use Rattle.limits.proofs.Laws.Made.{mapped}
+use Rattle.limits.proofs.Laws.Made.{made}
 use Rattle.clinks.specs.Links.{is_on}
+use Rattle.clinks.proofs.Laws.Links.{all_read}
 use Rattle.clinks.proofs.marks_of.Goals as goal
 
 pub returns : goal.returns
-returns c = mapped _ is_on _ (λ x y c' call. search rules) c.args.xs _ 32 0 (search rules) c.map.ensures.items
+returns c =
+    made _ (λ k. is_on (get_or c.args.xs k 0)) _ (λ k x c' call. search rules) _ 32 c.from_fn.ensures.items ∙ all_read is_on 0 c.args.xs 32 (search rules)
