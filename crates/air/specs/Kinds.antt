@@ -1,7 +1,7 @@
 -- The two kinds of message in the air, what the words of each say, and what a call on a lent table of either kind promises.
 use Rattle.std.specs.Prelude.{ℕ, ◌*◌, Bool, true, ◌&&◌, List, ltb, get_or, drop}
 use Rattle.limits.specs.declared.Limits.{Limits}
-use Rattle.limits.specs.declared.answer.Answer.{Answer}
+use Rattle.limits.specs.Questions.{Answer}
 use Rattle.limits.specs.Cells.{legal_cell}
 use Rattle.limits.specs.Limits.{between}
 use Rattle.limits.specs.Lists.{all}

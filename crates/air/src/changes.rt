@@ -11,19 +11,19 @@ ghost use Rattle.air.specs.Replies.{reply_table, reply_messages, sound_reply_tab
 use crate::messages;
 use crate::messages::{DataMessage, ReplyMessage};
 use limits::Limits;
-use limits::answer::Answer;
+use limits::answer::Refusal;
 
 // The answer, and what the message carries or zeros.
 #[derive(Clone, Copy)]
 pub struct FoundData {
-    pub answer: Answer,
+    pub answer: Result<(), Refusal>,
     pub number: usize,
     pub row: [u16; 16],
 }
 
 #[derive(Clone, Copy)]
 pub struct FoundReply {
-    pub answer: Answer,
+    pub answer: Result<(), Refusal>,
     pub first: usize,
     pub last: usize,
 }
@@ -43,13 +43,13 @@ pub fn find_data(count: usize, words: &[u16; 576], p: usize) -> FoundData
         let m = messages::data_at(words, p);
         let row = m.row;
         FoundData {
-            answer: Answer::Done,
+            answer: Ok(()),
             number: wide(m.number),
             row,
         }
     } else {
         FoundData {
-            answer: Answer::NoMessage,
+            answer: Err(Refusal::NoMessage),
             number: 0,
             row: [0; 16],
         }
@@ -64,13 +64,13 @@ pub fn find_reply(count: usize, words: &[u16; 96], p: usize) -> FoundReply
     if p < count {
         let m = messages::reply_at(words, p);
         FoundReply {
-            answer: Answer::Done,
+            answer: Ok(()),
             first: wide(m.first),
             last: wide(m.last),
         }
     } else {
         FoundReply {
-            answer: Answer::NoMessage,
+            answer: Err(Refusal::NoMessage),
             first: 0,
             last: 0,
         }

@@ -10,7 +10,7 @@ use crate::lent::Kind;
 use crate::messages::DataMessage;
 use crate::{lent, messages};
 use limits::Limits;
-use limits::answer::Answer;
+use limits::answer::Refusal;
 
 #[derive(Clone, Copy)]
 pub struct DataTable {
@@ -20,13 +20,13 @@ pub struct DataTable {
 
 #[derive(Clone, Copy)]
 pub struct DataAnswer {
-    pub answer: Answer,
+    pub answer: Result<(), Refusal>,
     pub table: DataTable,
 }
 
 #[derive(Clone, Copy)]
 pub struct DataRead {
-    pub answer: Answer,
+    pub answer: Result<(), Refusal>,
     pub message: DataMessage,
 }
 
@@ -106,7 +106,7 @@ pub fn tick(l: Limits, t: DataTable, d: u16) -> DataAnswer
 }
 
 // An answer with a message of zeros.
-fn unread(answer: Answer) -> DataRead
+fn unread(answer: Result<(), Refusal>) -> DataRead
     ensures { (result.answer ≡ answer) × (data_message result.message ≡ no_data) }
 {
     DataRead {
@@ -125,7 +125,7 @@ pub fn read(l: Limits, t: DataTable, p: usize) -> DataRead
 {
     let words = t.words;
     let answer = lent::found(l, Kind::OfData, t.count, &words, p);
-    let Answer::Done = answer else {
+    let Ok(()) = answer else {
         return unread(answer);
     };
     DataRead {

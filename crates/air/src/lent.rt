@@ -9,7 +9,7 @@ ghost use Rattle.air.specs.Rules.{room_questions, place_questions};
 ghost use Rattle.air.specs.Kinds.{width_of, full_of, sound_carrying, sound_head, sound_cells, lent, carried, sound_lent, LentCall};
 
 use limits::Limits;
-use limits::answer::Answer;
+use limits::answer::Refusal;
 
 #[derive(Clone, Copy)]
 pub enum Kind {
@@ -20,7 +20,7 @@ pub enum Kind {
 // What a call on a lent table gives: the answer, and how many messages the table then has.
 #[derive(Clone, Copy)]
 pub struct Counted {
-    pub answer: Answer,
+    pub answer: Result<(), Refusal>,
     pub count: usize,
 }
 
@@ -33,12 +33,12 @@ fn width(kind: Kind) -> usize
     }
 }
 
-fn full(kind: Kind) -> Answer
+fn full(kind: Kind) -> Result<(), Refusal>
     ensures { number_of result ≡ full_of kind }
 {
     match kind {
-        Kind::OfData => Answer::DataTableFull,
-        Kind::OfReplies => Answer::ReplyTableFull,
+        Kind::OfData => Err(Refusal::DataTableFull),
+        Kind::OfReplies => Err(Refusal::ReplyTableFull),
     }
 }
 
@@ -154,7 +154,7 @@ pub fn put(l: Limits, kind: Kind, count: usize, words: &mut [u16], message: &[u1
         if room(count) {
             tables::put(words, width(kind), count, message);
             Counted {
-                answer: Answer::Done,
+                answer: Ok(()),
                 count: count + 1,
             }
         } else {
@@ -165,26 +165,26 @@ pub fn put(l: Limits, kind: Kind, count: usize, words: &mut [u16], message: &[u1
         }
     } else {
         Counted {
-            answer: Answer::Unsound,
+            answer: Err(Refusal::Unsound),
             count,
         }
     }
 }
 
 // Whether there is a message p: 4, 17.
-pub fn found(l: Limits, kind: Kind, count: usize, words: &[u16], p: usize) -> Answer
+pub fn found(l: Limits, kind: Kind, count: usize, words: &[u16], p: usize) -> Result<(), Refusal>
     requires { width_of kind * 32 ≤ length words.now }
     ensures { let t = lent count words.now in
         number_of result ≡ first_no (ask 4 (sound_limits l && sound_lent l kind t) ∷ place_questions p (carried kind t)) }
 {
     if sound(l, kind, count, words) {
         if p < count {
-            Answer::Done
+            Ok(())
         } else {
-            Answer::NoMessage
+            Err(Refusal::NoMessage)
         }
     } else {
-        Answer::Unsound
+        Err(Refusal::Unsound)
     }
 }
 
@@ -196,7 +196,7 @@ pub fn remove(l: Limits, kind: Kind, count: usize, words: &mut [u16], p: usize) 
         (remove p (carried kind t)) result.answer (lent result.count words.new) }
 {
     let answer = found(l, kind, count, words, p);
-    let Answer::Done = answer else {
+    let Ok(()) = answer else {
         return Counted { answer, count };
     };
     tables::remove(words, width(kind), count, p);
@@ -217,18 +217,18 @@ pub fn tick(l: Limits, kind: Kind, count: usize, words: &mut [u16], d: u16) -> C
         if 1 <= d {
             let left = tables::age(words, width(kind), count, d);
             Counted {
-                answer: Answer::Done,
+                answer: Ok(()),
                 count: left,
             }
         } else {
             Counted {
-                answer: Answer::BadArgument,
+                answer: Err(Refusal::BadArgument),
                 count,
             }
         }
     } else {
         Counted {
-            answer: Answer::Unsound,
+            answer: Err(Refusal::Unsound),
             count,
         }
     }

@@ -10,7 +10,7 @@ use crate::lent::Kind;
 use crate::messages::ReplyMessage;
 use crate::{lent, messages};
 use limits::Limits;
-use limits::answer::Answer;
+use limits::answer::Refusal;
 
 #[derive(Clone, Copy)]
 pub struct ReplyTable {
@@ -20,13 +20,13 @@ pub struct ReplyTable {
 
 #[derive(Clone, Copy)]
 pub struct ReplyAnswer {
-    pub answer: Answer,
+    pub answer: Result<(), Refusal>,
     pub table: ReplyTable,
 }
 
 #[derive(Clone, Copy)]
 pub struct ReplyRead {
-    pub answer: Answer,
+    pub answer: Result<(), Refusal>,
     pub message: ReplyMessage,
 }
 
@@ -106,7 +106,7 @@ pub fn tick(l: Limits, t: ReplyTable, d: u16) -> ReplyAnswer
 }
 
 // An answer with a message of zeros.
-fn unread(answer: Answer) -> ReplyRead
+fn unread(answer: Result<(), Refusal>) -> ReplyRead
     ensures { (result.answer ≡ answer) × (reply_message result.message ≡ no_reply) }
 {
     ReplyRead {
@@ -125,7 +125,7 @@ pub fn read(l: Limits, t: ReplyTable, p: usize) -> ReplyRead
 {
     let words = t.words;
     let answer = lent::found(l, Kind::OfReplies, t.count, &words, p);
-    let Answer::Done = answer else {
+    let Ok(()) = answer else {
         return unread(answer);
     };
     ReplyRead {

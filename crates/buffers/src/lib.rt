@@ -4,16 +4,16 @@
 ghost use Rattle.std.specs.Prelude.{◌≡◌, ◌+◌, ◌≤◌, length};
 ghost use Rattle.buffers.specs.Buffers.{Wrote};
 
-use limits::answer::Answer;
+use limits::answer::Refusal;
 
 // What a writer says. `count` bytes were written.
 #[derive(Clone, Copy)]
 pub struct Written {
-    pub answer: Answer,
+    pub answer: Result<(), Refusal>,
     pub count: usize,
 }
 
-pub fn not_written(answer: Answer) -> Written
+pub fn not_written(answer: Result<(), Refusal>) -> Written
     ensures { result ≡ record { answer = answer; count = 0 } }
 {
     Written { answer, count: 0 }

@@ -5,7 +5,7 @@ ghost use Rattle.std.specs.Prelude.{◌≡◌, ◌<◌};
 ghost use Rattle.cframes.specs.Frames.{ReadFrame, WriteFrame};
 
 use frames::{DataFrame, ReplyFrame};
-use limits::answer::Answer;
+use limits::answer::Refusal;
 
 // The reader's questions. A data frame gives 1, life, w, number, 0 and its cells; a reply frame 2, life, w, first, last and
 // zeros. A refusal writes nothing.
@@ -14,8 +14,8 @@ pub fn read(frame: &[u8], head: &mut [u16; 5], cells: &mut [u16; 16]) -> u8
 {
     let got = frames::read(frame);
     let answer = got.answer;
-    let Answer::Done = answer else {
-        return limits::answer::number(answer);
+    let Ok(()) = answer else {
+        return limits::answer::number(&answer);
     };
     let f = got.dataframe;
     // Stays (proof): an array in a field is not proved where it is stored straight from there.
@@ -48,7 +48,7 @@ pub fn write(head: &[u16; 5], cells: &[u16; 16], buffer: &mut [u8], count: &mut 
         let written = frames::write_data(f, buffer);
         *count = written.count;
         let answer = written.answer;
-        limits::answer::number(answer)
+        limits::answer::number(&answer)
     } else if kind == 2 {
         let f = ReplyFrame {
             life: h[1],
@@ -59,7 +59,7 @@ pub fn write(head: &[u16; 5], cells: &[u16; 16], buffer: &mut [u8], count: &mut 
         let written = frames::write_reply(f, buffer);
         *count = written.count;
         let answer = written.answer;
-        limits::answer::number(answer)
+        limits::answer::number(&answer)
     } else {
         *count = 0;
         22

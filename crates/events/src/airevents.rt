@@ -9,7 +9,7 @@ use crate::moves;
 use crate::moves::{Numbers, Step};
 use air::changes;
 use limits::Limits;
-use limits::answer::Answer;
+use limits::answer::Refusal;
 use mat::soundmat;
 use pad::soundpad;
 
@@ -28,9 +28,9 @@ pub fn lose_data(n: Numbers, datas: &mut [u16; 576], p: usize) -> Step
 {
     if p < n.datas {
         let left = changes::remove_data(n.datas, datas, p);
-        moves::stays(moves::with_datas(n, left), Answer::Done)
+        moves::stays(moves::with_datas(n, left), Ok(()))
     } else {
-        moves::stays(n, Answer::NoMessage)
+        moves::stays(n, Err(Refusal::NoMessage))
     }
 }
 
@@ -49,9 +49,9 @@ pub fn lose_reply(n: Numbers, replies: &mut [u16; 96], p: usize) -> Step
 {
     if p < n.replies {
         let left = changes::remove_reply(n.replies, replies, p);
-        moves::stays(moves::with_replies(n, left), Answer::Done)
+        moves::stays(moves::with_replies(n, left), Ok(()))
     } else {
-        moves::stays(n, Answer::NoMessage)
+        moves::stays(n, Err(Refusal::NoMessage))
     }
 }
 
@@ -81,5 +81,5 @@ pub fn tick(
     let left = changes::age_data(n.datas, datas, d);
     let replied = changes::age_replies(n.replies, replies, d);
     let after = moves::with_replies(moves::with_datas(n, left), replied);
-    moves::stays(after, Answer::Done)
+    moves::stays(after, Ok(()))
 }

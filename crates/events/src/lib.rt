@@ -9,7 +9,7 @@ pub mod padevents;
 use air::datatable::DataTable;
 use air::replytable::ReplyTable;
 use limits::Limits;
-use limits::answer::Answer;
+use limits::answer::Refusal;
 use mat::Mat;
 use pad::Pad;
 
@@ -33,7 +33,7 @@ pub struct Counts {
 
 #[derive(Clone, Copy)]
 pub struct Progress {
-    pub answer: Answer,
+    pub answer: Result<(), Refusal>,
     pub link: Link,
     pub counts: Counts,
 }

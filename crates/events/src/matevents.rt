@@ -12,7 +12,7 @@ use crate::moves;
 use crate::moves::{Numbers, Step};
 use air::{changes, lent};
 use limits::Limits;
-use limits::answer::Answer;
+use limits::answer::Refusal;
 use mat::soundmat;
 
 // The next row is sent: 10, 11, 12, 13.
@@ -39,7 +39,7 @@ pub fn send(
 {
     let found = soundmat::next_row(l, n.oldest, n.next, supply);
     let answer = found.answer;
-    let Answer::Done = answer else {
+    let Ok(()) = answer else {
         return moves::stays(n, answer);
     };
     if lent::room(n.datas) {
@@ -53,7 +53,7 @@ pub fn send(
             counts: moves::one_sent(),
         }
     } else {
-        moves::stays(n, Answer::DataTableFull)
+        moves::stays(n, Err(Refusal::DataTableFull))
     }
 }
 
@@ -81,7 +81,7 @@ pub fn resend(
 {
     let found = soundmat::due(l, n.oldest, n.next, marks, mattimers, k);
     let answer = found.answer;
-    let Answer::Done = answer else {
+    let Ok(()) = answer else {
         return moves::stays(n, answer);
     };
     if lent::room(n.datas) {
@@ -90,7 +90,7 @@ pub fn resend(
         let count = changes::put_data(l, n.datas, datas, number, row);
         moves::stays(moves::with_datas(n, count), answer)
     } else {
-        moves::stays(n, Answer::DataTableFull)
+        moves::stays(n, Err(Refusal::DataTableFull))
     }
 }
 
@@ -117,12 +117,12 @@ pub fn arrive_reply(
 {
     let found = changes::find_reply(n.replies, replies, p);
     let answer = found.answer;
-    let Answer::Done = answer else {
+    let Ok(()) = answer else {
         return moves::stays(n, answer);
     };
     let a = soundmat::acknowledge(l, n.oldest, n.next, marks, found.first, found.last);
     let answer = a.answer;
-    let Answer::Done = answer else {
+    let Ok(()) = answer else {
         return moves::stays(n, answer);
     };
     let count = changes::remove_reply(n.replies, replies, p);

@@ -5,7 +5,7 @@ ghost use Rattle.events.specs.State.{no_counts, one_sent, acknowledged_by, recor
 ghost use Rattle.events.specs.Lent.{with_oldest, with_next, with_wanted, with_datas, with_replies};
 
 use crate::Counts;
-use limits::answer::Answer;
+use limits::answer::Refusal;
 
 // The mat's two numbers, the pad's one, and how many messages each table has.
 #[derive(Clone, Copy)]
@@ -19,7 +19,7 @@ pub struct Numbers {
 
 #[derive(Clone, Copy)]
 pub struct Step {
-    pub answer: Answer,
+    pub answer: Result<(), Refusal>,
     pub numbers: Numbers,
     pub counts: Counts,
 }
@@ -110,7 +110,7 @@ pub fn sum(a: Counts, b: Counts) -> Counts
 }
 
 // The numbers, with an answer and no rises.
-pub fn stays(n: Numbers, answer: Answer) -> Step
+pub fn stays(n: Numbers, answer: Result<(), Refusal>) -> Step
     ensures { (result.answer ≡ answer) × (result.numbers ≡ n) × (result.counts ≡ no_counts) }
 {
     Step {

@@ -11,7 +11,7 @@ use crate::moves;
 use crate::moves::{Numbers, Step};
 use air::{changes, lent};
 use limits::Limits;
-use limits::answer::Answer;
+use limits::answer::Refusal;
 use pad::soundpad;
 
 // Message p is an old row: it is replied to and leaves the data table: 18.
@@ -40,9 +40,9 @@ fn take_old(
         let replied = changes::put_reply(l, n.replies, replies, number, number);
         let left = changes::remove_data(n.datas, datas, p);
         let after = moves::with_replies(moves::with_datas(n, left), replied);
-        moves::stays(after, Answer::Done)
+        moves::stays(after, Ok(()))
     } else {
-        moves::stays(n, Answer::ReplyTableFull)
+        moves::stays(n, Err(Refusal::ReplyTableFull))
     }
 }
 
@@ -72,7 +72,7 @@ pub fn arrive_data(
 {
     let found = changes::find_data(n.datas, datas, p);
     let answer = found.answer;
-    let Answer::Done = answer else {
+    let Ok(()) = answer else {
         return moves::stays(n, answer);
     };
     let number = found.number;
@@ -110,7 +110,7 @@ pub fn reply(
 {
     let run = soundpad::run_length(l, n.wanted, held, padtimers);
     let answer = run.answer;
-    let Answer::Done = answer else {
+    let Ok(()) = answer else {
         return moves::stays(n, answer);
     };
     let count = run.count;
@@ -124,9 +124,9 @@ pub fn reply(
                 counts: moves::recorded_by(count),
             }
         } else {
-            moves::stays(n, Answer::ReplyTableFull)
+            moves::stays(n, Err(Refusal::ReplyTableFull))
         }
     } else {
-        moves::stays(n, Answer::RecordFull)
+        moves::stays(n, Err(Refusal::RecordFull))
     }
 }

@@ -13,5 +13,5 @@ pub fn matlink_page(record: &[u16], page: u64, buffer: &mut [u8], count: &mut u6
     let written = page::page(record, page as usize, buffer);
     *count = written.count as u64;
     let answer = written.answer;
-    limits::answer::number(answer)
+    limits::answer::number(&answer)
 }

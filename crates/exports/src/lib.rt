@@ -12,7 +12,7 @@ pub mod cpage;
 use events::Counts;
 use events::moves::Numbers;
 use limits::Limits;
-use limits::answer::Answer;
+use limits::answer::Refusal;
 
 // A limit above 65535 is refused as 65535 is.
 fn capped_limit(x: u32) -> u16
@@ -85,7 +85,7 @@ pub fn matlink_lent_open(
     *datas = [0; 576];
     *replies = [0; 96];
     let answer = a.answer;
-    limits::answer::number(answer)
+    limits::answer::number(&answer)
 }
 
 // A kind or an argument above 255 is no byte: the event is then of the unknown kind 0.
@@ -145,8 +145,8 @@ pub fn matlink_lent_step(
     let n = s.counts;
     *counts = counts_of(n);
     let answer = s.answer;
-    let Answer::Done = answer else {
-        return limits::answer::number(answer);
+    let Ok(()) = answer else {
+        return limits::answer::number(&answer);
     };
     let after = s.numbers;
     *head = clinks::head_of(l, after);
@@ -201,8 +201,8 @@ pub fn matlink_lent_run(
     let n = s.counts;
     *counts = counts_of(n);
     let answer = s.answer;
-    let Answer::Done = answer else {
-        return limits::answer::number(answer);
+    let Ok(()) = answer else {
+        return limits::answer::number(&answer);
     };
     let after = s.numbers;
     *head = clinks::head_of(l, after);
@@ -232,5 +232,5 @@ pub fn matlink_lent_ride(
     let n = outcome.counts;
     *counts = counts_of(n);
     let answer = outcome.answer;
-    limits::answer::number(answer)
+    limits::answer::number(&answer)
 }

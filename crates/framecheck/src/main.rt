@@ -4,7 +4,7 @@
 #![tactic(auto)]
 
 use frames::{DataFrame, ReplyFrame};
-use limits::answer::Answer;
+use limits::answer::Refusal;
 use std::fmt::Display;
 use std::io;
 use std::io::Read;
@@ -39,8 +39,8 @@ fn one(rt: &impl Print, frame: &[u8]) -> io::Result<()> {
     let r = frames::read(frame);
     let answer = r.answer;
     let kind = r.kind;
-    print!(rt; "{} {} ", limits::answer::number(answer), kind)?;
-    let Answer::Done = answer else {
+    print!(rt; "{} {} ", limits::answer::number(&answer), kind)?;
+    let Ok(()) = answer else {
         return println!(rt);
     };
     if kind == 1 {

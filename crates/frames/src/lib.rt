@@ -29,7 +29,7 @@ ghost use Rattle.frames.specs.Rules.{
 ghost use Rattle.buffers.specs.Buffers.{writing, WriteCall};
 
 use buffers::Written;
-use limits::answer::Answer;
+use limits::answer::Refusal;
 use std::array;
 
 // A row under its number (a data packet).
@@ -53,63 +53,63 @@ pub struct ReplyFrame {
 // `kind` is the first byte: 1 gives `dataframe`, 2 gives `replyframe`, and the other one is zeros. It is 0 where the answer is no.
 #[derive(Clone, Copy)]
 pub struct FrameRead {
-    pub answer: Answer,
+    pub answer: Result<(), Refusal>,
     pub kind: u8,
     pub dataframe: DataFrame,
     pub replyframe: ReplyFrame,
 }
 
 // 24, 25, 26 of a frame with the numbers first and last.
-fn frame_answer(window: usize, first: usize, last: usize, life: u16) -> Answer
+fn frame_answer(window: usize, first: usize, last: usize, life: u16) -> Result<(), Refusal>
     ensures { number_of result ≡ first_no (frame_questions window (first ∷ last ∷ []) life) }
 {
     if limits::window_fits(window) {
         if first < 2 * window {
             if last < 2 * window {
                 if limits::within(1, 250, life) {
-                    Answer::Done
+                    Ok(())
                 } else {
-                    Answer::BadFrameLife
+                    Err(Refusal::BadFrameLife)
                 }
             } else {
-                Answer::BadFrameNumber
+                Err(Refusal::BadFrameNumber)
             }
         } else {
-            Answer::BadFrameNumber
+            Err(Refusal::BadFrameNumber)
         }
     } else {
-        Answer::BadFrameWindow
+        Err(Refusal::BadFrameWindow)
     }
 }
 
 // 24, 25, 26, 12.
-fn data_answer(f: DataFrame) -> Answer
+fn data_answer(f: DataFrame) -> Result<(), Refusal>
     ensures { number_of result ≡ first_no (data_questions f) }
 {
     let answer = frame_answer(f.window, f.number, f.number, f.life);
-    let Answer::Done = answer else {
+    let Ok(()) = answer else {
         return answer;
     };
     let row = f.row;
     if rows::legal_row(row) {
-        Answer::Done
+        Ok(())
     } else {
-        Answer::IllegalCell
+        Err(Refusal::IllegalCell)
     }
 }
 
 // 24, 25, 26, 27.
-fn reply_answer(f: ReplyFrame) -> Answer
+fn reply_answer(f: ReplyFrame) -> Result<(), Refusal>
     ensures { number_of result ≡ first_no (reply_questions f) }
 {
     let answer = frame_answer(f.window, f.first, f.last, f.life);
-    let Answer::Done = answer else {
+    let Ok(()) = answer else {
         return answer;
     };
     if limits::ring::gap(2 * f.window, f.first, f.last) < f.window {
-        Answer::Done
+        Ok(())
     } else {
-        Answer::BadFrameSpan
+        Err(Refusal::BadFrameSpan)
     }
 }
 
@@ -167,7 +167,7 @@ fn no_reply() -> ReplyFrame
     }
 }
 
-fn refused(answer: Answer) -> FrameRead
+fn refused(answer: Result<(), Refusal>) -> FrameRead
     ensures { result ≡ record { answer = answer; kind = 0; dataframe = no_data_frame; replyframe = no_reply_frame } }
 {
     FrameRead {
@@ -186,17 +186,17 @@ fn read_data(bytes: &[u8]) -> FrameRead
     if bytes.len() == 36 {
         let frame = data_of(bytes);
         let answer = data_answer(frame);
-        let Answer::Done = answer else {
+        let Ok(()) = answer else {
             return refused(answer);
         };
         FrameRead {
-            answer: Answer::Done,
+            answer: Ok(()),
             kind: 1,
             dataframe: frame,
             replyframe: no_reply(),
         }
     } else {
-        refused(Answer::BadFrameLength)
+        refused(Err(Refusal::BadFrameLength))
     }
 }
 
@@ -208,17 +208,17 @@ fn read_reply(bytes: &[u8]) -> FrameRead
     if bytes.len() == 5 {
         let frame = reply_of(bytes);
         let answer = reply_answer(frame);
-        let Answer::Done = answer else {
+        let Ok(()) = answer else {
             return refused(answer);
         };
         FrameRead {
-            answer: Answer::Done,
+            answer: Ok(()),
             kind: 2,
             dataframe: no_data(),
             replyframe: frame,
         }
     } else {
-        refused(Answer::BadFrameLength)
+        refused(Err(Refusal::BadFrameLength))
     }
 }
 
@@ -233,10 +233,10 @@ pub fn read(bytes: &[u8]) -> FrameRead
         } else if kind == 2 {
             read_reply(bytes)
         } else {
-            refused(Answer::UnknownFrame)
+            refused(Err(Refusal::UnknownFrame))
         }
     } else {
-        refused(Answer::UnknownFrame)
+        refused(Err(Refusal::UnknownFrame))
     }
 }
 
@@ -281,17 +281,17 @@ pub fn write_data(f: DataFrame, buffer: &mut [u8]) -> Written
         (writing 36 (data_into f buffer.old)) result buffer.old buffer.new }
 {
     let answer = data_answer(f);
-    let Answer::Done = answer else {
+    let Ok(()) = answer else {
         return buffers::not_written(answer);
     };
     if 36 <= buffer.len() {
         put_data(f, buffer);
         Written {
-            answer: Answer::Done,
+            answer: Ok(()),
             count: 36,
         }
     } else {
-        buffers::not_written(Answer::ShortBuffer)
+        buffers::not_written(Err(Refusal::ShortBuffer))
     }
 }
 
@@ -301,16 +301,16 @@ pub fn write_reply(f: ReplyFrame, buffer: &mut [u8]) -> Written
         (writing 5 (reply_into f buffer.old)) result buffer.old buffer.new }
 {
     let answer = reply_answer(f);
-    let Answer::Done = answer else {
+    let Ok(()) = answer else {
         return buffers::not_written(answer);
     };
     if 5 <= buffer.len() {
         put_reply(f, buffer);
         Written {
-            answer: Answer::Done,
+            answer: Ok(()),
             count: 5,
         }
     } else {
-        buffers::not_written(Answer::ShortBuffer)
+        buffers::not_written(Err(Refusal::ShortBuffer))
     }
 }

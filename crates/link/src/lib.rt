@@ -11,11 +11,11 @@ use air::{datatable, replytable};
 use events::moves::Numbers;
 use events::{Link, Progress};
 use limits::Limits;
-use limits::answer::Answer;
+use limits::answer::Refusal;
 
 #[derive(Clone, Copy)]
 pub struct Opening {
-    pub answer: Answer,
+    pub answer: Result<(), Refusal>,
     pub link: Link,
 }
 

@@ -8,7 +8,7 @@ ghost use Rattle.events.specs.Lent.{arrays, link_of, LentMoves};
 use events::moves::{Numbers, Step};
 use events::{airevents, matevents, moves, padevents};
 use limits::Limits;
-use limits::answer::Answer;
+use limits::answer::Refusal;
 
 // 8, 9, then the questions of its kind.
 pub fn event(
@@ -44,14 +44,14 @@ pub fn event(
         1 => if argument == 0 {
             matevents::send(l, n, mattimers, matcells, datas, supply)
         } else {
-            moves::stays(n, Answer::BadArgument)
+            moves::stays(n, Err(Refusal::BadArgument))
         },
         2 => matevents::resend(l, n, marks, mattimers, matcells, datas, p),
         3 => padevents::arrive_data(l, n, held, padtimers, padcells, datas, replies, p),
         4 => if argument == 0 {
             padevents::reply(l, n, held, padtimers, padcells, replies, record)
         } else {
-            moves::stays(n, Answer::BadArgument)
+            moves::stays(n, Err(Refusal::BadArgument))
         },
         5 => matevents::arrive_reply(l, n, marks, replies, p),
         6 => airevents::lose_data(n, datas, p),
@@ -59,8 +59,8 @@ pub fn event(
         8 => if 1 <= argument {
             airevents::tick(l, n, mattimers, padtimers, datas, replies, argument as u16)
         } else {
-            moves::stays(n, Answer::BadArgument)
+            moves::stays(n, Err(Refusal::BadArgument))
         },
-        _ => moves::stays(n, Answer::UnknownKind),
+        _ => moves::stays(n, Err(Refusal::UnknownKind)),
     }
 }

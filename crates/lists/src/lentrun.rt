@@ -10,7 +10,7 @@ use crate::dispatch;
 use events::moves;
 use events::moves::{Numbers, Step};
 use limits::Limits;
-use limits::answer::Answer;
+use limits::answer::Refusal;
 
 // Every event in order, each on the unsent rest of the supply and the unwritten rest of the record. Gives the last answer. Where
 // every event was refused, the link is as it was.
@@ -48,7 +48,7 @@ pub fn run_events(
 {
     let count = events.len() / 2;
     let mut at = n;
-    let mut last = Answer::Done;
+    let mut last = Ok(());
     let mut counts = moves::no_counts();
     let mut i = 0;
     while i < count {
@@ -71,9 +71,9 @@ pub fn run_events(
             &mut record[recorded..],
         );
         last = s.answer;
-        answers[i] = limits::answer::number(last);
+        answers[i] = limits::answer::number(&last);
         i += 1;
-        let Answer::Done = last else {
+        let Ok(()) = last else {
             continue;
         };
         at = s.numbers;

@@ -10,7 +10,7 @@ ghost use Rattle.page.specs.Page.{rows_on, lines_from, page_bytes, page_into, re
 mod line;
 
 use buffers::Written;
-use limits::answer::Answer;
+use limits::answer::Refusal;
 
 // How many rows page p has. 60 times p is formed only where it is below `rows`.
 fn rows_on(rows: usize, p: usize) -> usize
@@ -32,7 +32,7 @@ fn record_fits(record: &[u16]) -> bool
 }
 
 // 30, 31, 12 and 32 of a page for a buffer of `room` bytes.
-fn page_answer(record: &[u16], p: usize, room: usize) -> Answer
+fn page_answer(record: &[u16], p: usize, room: usize) -> Result<(), Refusal>
     ensures { number_of result ≡ first_no (page_questions «record».now p room) }
 {
     if record_fits(record) {
@@ -41,18 +41,18 @@ fn page_answer(record: &[u16], p: usize, room: usize) -> Answer
             let from = 16 * (60 * p);
             if rows::legal_cells(record, from, from + 16 * n) {
                 if 23 * n <= room {
-                    Answer::Done
+                    Ok(())
                 } else {
-                    Answer::ShortPageBuffer
+                    Err(Refusal::ShortPageBuffer)
                 }
             } else {
-                Answer::IllegalCell
+                Err(Refusal::IllegalCell)
             }
         } else {
-            Answer::NoSuchPage
+            Err(Refusal::NoSuchPage)
         }
     } else {
-        Answer::BadRecordLength
+        Err(Refusal::BadRecordLength)
     }
 }
 
@@ -73,13 +73,13 @@ pub fn page(record: &[u16], p: usize, out: &mut [u8]) -> Written
         (writing (page_bytes «record».now p) (page_into «record».now p out.old)) result out.old out.new }
 {
     let answer = page_answer(record, p, out.len());
-    let Answer::Done = answer else {
+    let Ok(()) = answer else {
         return buffers::not_written(answer);
     };
     let n = rows_on(record.len() / 16, p);
     lines(out, record, 60 * p, n);
     Written {
-        answer: Answer::Done,
+        answer: Ok(()),
         count: 23 * n,
     }
 }

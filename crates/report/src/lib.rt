@@ -10,13 +10,13 @@ ghost use Rattle.report.specs.Report.{output_length, text_of, Room, Reports};
 
 use buffers::Written;
 use events::Counts;
-use limits::answer::Answer;
+use limits::answer::Refusal;
 
-fn refused(output: &mut [u8], answer: Answer) -> usize
+fn refused(output: &mut [u8], answer: Result<(), Refusal>) -> usize
     requires { 12 ≤ length output.old }
     ensures { Wrote 0 (refused_line (number_of answer)) output.old output.new result }
 {
-    lines::text::refused_line(output, 0, limits::answer::number(answer))
+    lines::text::refused_line(output, 0, limits::answer::number(&answer))
 }
 
 // The lines of the events and that of the counts.
@@ -51,7 +51,7 @@ fn ridden(input: &[u8], output: &mut [u8]) -> usize
         &mut answers,
     );
     let answer = outcome.answer;
-    let Answer::Done = answer else {
+    let Ok(()) = answer else {
         return refused(output, answer);
     };
     let counts = outcome.counts;
@@ -65,7 +65,7 @@ fn text(input: &[u8], output: &mut [u8]) -> usize
     if lines::input::readable(input) {
         ridden(input, output)
     } else {
-        refused(output, Answer::BadInputLength)
+        refused(output, Err(Refusal::BadInputLength))
     }
 }
 
@@ -76,10 +76,10 @@ pub fn report(input: &[u8], output: &mut [u8]) -> Written
     if 245760 <= output.len() {
         let count = text(input, output);
         Written {
-            answer: Answer::Done,
+            answer: Ok(()),
             count,
         }
     } else {
-        buffers::not_written(Answer::ShortBuffer)
+        buffers::not_written(Err(Refusal::ShortBuffer))
     }
 }

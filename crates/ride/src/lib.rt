@@ -6,11 +6,11 @@ ghost use Rattle.ride.specs.Ride.{Rode};
 
 use events::Counts;
 use limits::Limits;
-use limits::answer::Answer;
+use limits::answer::Refusal;
 
 #[derive(Clone, Copy)]
 pub struct Outcome {
-    pub answer: Answer,
+    pub answer: Result<(), Refusal>,
     pub counts: Counts,
 }
 
@@ -27,7 +27,7 @@ pub fn ride(
 {
     let opening = link::open(asked);
     let opened = opening.answer;
-    let Answer::Done = opened else {
+    let Ok(()) = opened else {
         return Outcome {
             answer: opened,
             counts: Counts {

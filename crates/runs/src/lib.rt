@@ -14,7 +14,7 @@ use air::lent::Kind;
 use events::moves;
 use events::moves::{Numbers, Step};
 use limits::Limits;
-use limits::answer::Answer;
+use limits::answer::Refusal;
 use lists::lentrun;
 use mat::soundmat;
 use pad::soundpad;
@@ -92,34 +92,34 @@ pub fn lent_step(
                 &mut answers,
             );
             let answer = s.answer;
-            let Answer::Done = answer else {
+            let Ok(()) = answer else {
                 return moves::stays(n, answer);
             };
             s
         } else {
-            moves::stays(n, Answer::PartialRow)
+            moves::stays(n, Err(Refusal::PartialRow))
         }
     } else {
-        moves::stays(n, Answer::Unsound)
+        moves::stays(n, Err(Refusal::Unsound))
     }
 }
 
 // The first of 5, 6 and 7 that is answered no, of what is lent to a run.
-fn lent_fits(events: usize, supply: usize, answers: usize) -> Answer
+fn lent_fits(events: usize, supply: usize, answers: usize) -> Result<(), Refusal>
     ensures { number_of result ≡ first_no (lent_asks events supply answers) }
 {
     if events % 2 == 0 {
         if supply % 16 == 0 {
             if events / 2 <= answers {
-                Answer::Done
+                Ok(())
             } else {
-                Answer::ShortAnswers
+                Err(Refusal::ShortAnswers)
             }
         } else {
-            Answer::PartialRow
+            Err(Refusal::PartialRow)
         }
     } else {
-        Answer::OddEvents
+        Err(Refusal::OddEvents)
     }
 }
 
@@ -152,7 +152,7 @@ pub fn lent_run(
         l, n, marks, mattimers, matcells, held, padtimers, padcells, datas, replies,
     ) {
         let answer = lent_fits(events.len(), supply.len(), answers.len());
-        let Answer::Done = answer else {
+        let Ok(()) = answer else {
             return moves::stays(n, answer);
         };
         let s = lentrun::run_events(
@@ -167,6 +167,6 @@ pub fn lent_run(
             counts,
         }
     } else {
-        moves::stays(n, Answer::Unsound)
+        moves::stays(n, Err(Refusal::Unsound))
     }
 }

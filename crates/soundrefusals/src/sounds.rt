@@ -1,14 +1,14 @@
 // Question 4 by itself.
 use air::{datatable, replytable};
-use limits::answer::Answer;
+use limits::answer::Refusal;
 use std::io;
 use tries::line;
 
 fn sound(rt: &impl Print, what: &[u8], passes: bool) -> io::Result<()> {
     if passes {
-        line(rt, what, Answer::Done)
+        line(rt, what, Ok(()))
     } else {
-        line(rt, what, Answer::Unsound)
+        line(rt, what, Err(Refusal::Unsound))
     }
 }
 

@@ -4,7 +4,7 @@
 ghost use Rattle.std.specs.Prelude.{◌≡◌};
 
 use limits::Limits;
-use limits::answer::Answer;
+use limits::answer::Refusal;
 use std::io;
 
 pub fn of(window: usize, time: u16, wait: u16) -> Limits
@@ -19,8 +19,8 @@ pub fn of(window: usize, time: u16, wait: u16) -> Limits
     }
 }
 
-pub fn line(rt: &impl Print, what: &[u8], answer: Answer) -> io::Result<()> {
-    let number = limits::answer::number(answer);
+pub fn line(rt: &impl Print, what: &[u8], answer: Result<(), Refusal>) -> io::Result<()> {
+    let number = limits::answer::number(&answer);
     rt.write_all(what)?;
     println!(rt; " {number}")
 }

@@ -8,8 +8,9 @@ use lib.Dec.{eqb, ltb}
 use lib.ListN.{length}
 use borrow.Author.Tests.{ltb-true, ltb-false}
 use Rattle.limits.specs.declared.Limits.{Limits}
-use Rattle.limits.specs.declared.answer.Answer.{Answer}
-use Rattle.limits.specs.declared.answer.Answer.TheVariants.{Done, BadArgument}
+use Rattle.limits.specs.Questions.{Answer}
+use Rattle.limits.specs.declared.answer.Refusal.TheVariants.{BadArgument}
+use Rattle.std.specs.Prelude.{Ok, Err}
 use Rattle.limits.specs.Answer.{number_of}
 use Rattle.limits.specs.Limits.{sound_limits}
 use Rattle.limits.specs.Lists.{all}
@@ -86,10 +87,10 @@ module _ (l : Limits) (kind : Kind) (w n : ℕ) (words : List ℕ) (is : w ≡ w
         ∷ room_questions (full_of kind) (carried kind (lent n words))
 
     pub put-done : (next : List ℕ) → ltb n 32 ≡ true → messages w (n + 1) next ≡ put (message_of w m) (messages w n words)
-        → LentCall l kind (lent n words) put_asks (put (message_of (width_of kind) m) (carried kind (lent n words))) Done (lent (n + 1) next)
+        → LentCall l kind (lent n words) put_asks (put (message_of (width_of kind) m) (carried kind (lent n words))) (Ok tt) (lent (n + 1) next)
     unfolding sound_lent
     put-done next h e =
-        called-done put_asks Done _ _ _
+        called-done put_asks (Ok tt) _ _ _
         (room-passed (carried kind (lent n words)) n (length-messages (width_of kind) n words) (full_of kind) (ltb-true n 32 h)
         ∙ sym (sound-first (room_questions (full_of kind) (carried kind (lent n words))) _ s))
         _ _ _ refl (rw is at e)
@@ -120,13 +121,13 @@ module _ (l : Limits) (kind : Kind) (w n : ℕ) (words : List ℕ) (is : w ≡ w
   -- time passed
   module _ (d : ℕ) (s : (sound_limits l && sound_lent l kind (lent n words)) ≡ true) where
     pub age-done : (left : ℕ) (next : List ℕ) → 1 ≤ d → messages w left next ≡ age d (messages w n words)
-        → LentCall l kind (lent n words) (ask 4 (sound_limits l && sound_lent l kind (lent n words)) ∷ time_questions d) (age d (carried kind (lent n words))) Done (lent left next)
+        → LentCall l kind (lent n words) (ask 4 (sound_limits l && sound_lent l kind (lent n words)) ∷ time_questions d) (age d (carried kind (lent n words))) (Ok tt) (lent left next)
     unfolding sound_lent
     age-done left next h e =
-        called-done _ Done _ _ _ (time-passed d h ∙ sym (sound-first (time_questions d) _ s)) _ _ _ refl (rw is at e)
+        called-done _ (Ok tt) _ _ _ (time-passed d h ∙ sym (sound-first (time_questions d) _ s)) _ _ _ refl (rw is at e)
         (rw (rw is at e) (age-sound (sound_words l kind) (life_of l kind) d (carried kind (lent n words)) (and_right (sound_limits l) _ s)))
 
     pub age-refused : d < 1
-        → LentCall l kind (lent n words) (ask 4 (sound_limits l && sound_lent l kind (lent n words)) ∷ time_questions d) (age d (carried kind (lent n words))) BadArgument (lent n words)
+        → LentCall l kind (lent n words) (ask 4 (sound_limits l && sound_lent l kind (lent n words)) ∷ time_questions d) (age d (carried kind (lent n words))) (Err BadArgument) (lent n words)
     age-refused h =
-        called-refused _ BadArgument _ _ _ (time-refused d h ∙ sym (sound-first (time_questions d) _ s)) _ _ _ refl refl refl
+        called-refused _ (Err BadArgument) _ _ _ (time-refused d h ∙ sym (sound-first (time_questions d) _ s)) _ _ _ refl refl refl

@@ -5,7 +5,7 @@ use mathlib.Core.Bool.{◌&&◌}
 use mathlib.Core.List.{List, [], ◌∷◌}
 use lib.Dec.{ltb}
 use Rattle.limits.specs.declared.Limits.{Limits}
-use Rattle.limits.specs.declared.answer.Answer.{Answer}
+use Rattle.limits.specs.Questions.{Answer}
 use Rattle.limits.specs.Limits.{sound_limits}
 use Rattle.limits.specs.Questions.{ask, first_no, time_questions}
 use Rattle.limits.specs.Tables.{Message, Data, Reply, capacity, on_body, put, remove, age}

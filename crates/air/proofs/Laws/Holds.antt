@@ -7,7 +7,8 @@ use native.Mathlib.Omega.{arith}
 use lib.Dec.{eqb}
 use lib.ListN.{length-map}
 use Rattle.limits.specs.declared.Limits.{Limits}
-use Rattle.limits.specs.declared.answer.Answer.TheVariants.{Done, NoMessage}
+use Rattle.limits.specs.declared.answer.Refusal.TheVariants.{NoMessage}
+use Rattle.std.specs.Prelude.{Ok, Err}
 use Rattle.limits.specs.Answer.{number_of}
 use Rattle.limits.specs.Limits.{sound_limits}
 use Rattle.limits.specs.Tables.{Message, Data, Reply, on_body, put, remove, age, sound_data, sound_reply, no_data, no_reply}
@@ -99,22 +100,22 @@ module _ (l : Limits) (n : ℕ) (words next : List ℕ) (s : sound_reply_table l
 
 -- a message found, and none
 module _ (n : ℕ) (words : List ℕ) (p : ℕ) where
-  pub data-found : (r : FoundData) (m : DataMessage) → r.answer ≡ Done → p < n → data_message m ≡ on_body data_of (message_at 18 words p) → r.number ≡ m.number → r.row ≡ m.row
+  pub data-found : (r : FoundData) (m : DataMessage) → r.answer ≡ (Ok tt) → p < n → data_message m ≡ on_body data_of (message_at 18 words p) → r.number ≡ m.number → r.row ≡ m.row
       → DataFound (data_table n words) p r
   data-found r m e h is a b =
       answers-done _ r.answer _ _ _ (ap number_of e ∙ place-passed (data_messages (data_table n words)) n (length-data n words) p h) (ap number_of e)
       ((λ i. record { number = a i; row = b i }) ∙ ap (λ (x : Message Data). x.body) (is ∙ data-at n words p h))
 
-  pub data-none : (r : FoundData) → r.answer ≡ NoMessage → n ≤ p → record { number = r.number; row = r.row } ≡ no_data.body → DataFound (data_table n words) p r
+  pub data-none : (r : FoundData) → r.answer ≡ (Err NoMessage) → n ≤ p → record { number = r.number; row = r.row } ≡ no_data.body → DataFound (data_table n words) p r
   data-none r e h is =
       answers-refused _ r.answer _ _ _ (ap number_of e ∙ place-refused (data_messages (data_table n words)) n (length-data n words) p h) (ap (λ a. eqb (number_of a) 0) e) is
 
-  pub reply-found : (r : FoundReply) (m : ReplyMessage) → r.answer ≡ Done → p < n → reply_message m ≡ on_body reply_of (message_at 3 words p) → r.first ≡ m.first → r.last ≡ m.last
+  pub reply-found : (r : FoundReply) (m : ReplyMessage) → r.answer ≡ (Ok tt) → p < n → reply_message m ≡ on_body reply_of (message_at 3 words p) → r.first ≡ m.first → r.last ≡ m.last
       → ReplyFound (reply_table n words) p r
   reply-found r m e h is a b =
       answers-done _ r.answer _ _ _ (ap number_of e ∙ place-passed (reply_messages (reply_table n words)) n (length-replies n words) p h) (ap number_of e)
       ((λ i. record { first = a i; last = b i }) ∙ ap (λ (x : Message Reply). x.body) (is ∙ reply-at n words p h))
 
-  pub reply-none : (r : FoundReply) → r.answer ≡ NoMessage → n ≤ p → record { first = r.first; last = r.last } ≡ no_reply.body → ReplyFound (reply_table n words) p r
+  pub reply-none : (r : FoundReply) → r.answer ≡ (Err NoMessage) → n ≤ p → record { first = r.first; last = r.last } ≡ no_reply.body → ReplyFound (reply_table n words) p r
   reply-none r e h is =
       answers-refused _ r.answer _ _ _ (ap number_of e ∙ place-refused (reply_messages (reply_table n words)) n (length-replies n words) p h) (ap (λ a. eqb (number_of a) 0) e) is

@@ -8,7 +8,7 @@ use mathlib.Core.List.{List, [], ◌∷◌, map}
 use lib.Dec.{leb, ltb}
 use lib.ListN.{length, get_or, length-map}
 use Rattle.limits.specs.declared.Limits.{Limits}
-use Rattle.limits.specs.declared.answer.Answer.{Answer}
+use Rattle.limits.specs.Questions.{Answer}
 use Rattle.limits.specs.Limits.{sound_limits}
 use Rattle.limits.specs.Lists.{tab, all}
 use Rattle.limits.specs.Questions.{Question, ask, first_no}

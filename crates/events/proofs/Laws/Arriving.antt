@@ -7,7 +7,7 @@ use lib.Dec.{ltb}
 use lib.ListN.{length, get_or}
 use Rattle.limits.specs.Answer.{number_of}
 use Rattle.limits.specs.Lists.{all}
-use Rattle.limits.specs.declared.answer.Answer.TheVariants.{Done}
+use Rattle.std.specs.Prelude.{Ok, Err}
 use Rattle.limits.specs.Questions.{Question, ask, first_no, Called}
 use Rattle.limits.specs.Tables.{Data, capacity, no_data}
 use Rattle.limits.specs.Events.{arrive_data}
@@ -87,7 +87,7 @@ module _ (k : Link) (p : Parts k) (n : ℕ) (read : FoundData) (c : DataFound k.
 
     -- a row of the window
     pub new-arrives : (r : Progress) (supply b : List ℕ) → a.old ≡ false
-        → (r.answer ≡ Done) × (sound_link r.link ≡ true) × (r.counts ≡ no_counts) × (link_state r.link ≡ new_taken (link_state k) n (pad_state k.limits.window a.pad))
+        → (r.answer ≡ (Ok tt)) × (sound_link r.link ≡ true) × (r.counts ≡ no_counts) × (link_state r.link ≡ new_taken (link_state k) n (pad_state k.limits.window a.pad))
         → Moves k supply b b (arrive_data n) r
     unfolding link_state
     new-arrives r supply b o t =

@@ -4,7 +4,7 @@ use mathlib.Core.Path.{◌≡◌, ◌∙◌, ap, ap₂}
 use mathlib.Core.Bool.{Bool, true, false}
 use mathlib.Core.List.{List}
 use lib.Dec.{eqb}
-use Rattle.limits.specs.declared.answer.Answer.{Answer}
+use Rattle.limits.specs.Questions.{Answer}
 use Rattle.limits.specs.Answer.{number_of}
 use Rattle.limits.specs.Questions.{Question, first_no, Called}
 use Rattle.limits.proofs.Laws.Promise.{called-done, called-refused}

@@ -5,7 +5,8 @@ use mathlib.Core.Bool.{Bool, true, false}
 use mathlib.Core.List.{List}
 use lib.Dec.{ltb}
 use lib.ListN.{length}
-use Rattle.limits.specs.declared.answer.Answer.TheVariants.{Done, NoMessage, ReplyTableFull}
+use Rattle.limits.specs.declared.answer.Refusal.TheVariants.{NoMessage, ReplyTableFull}
+use Rattle.std.specs.Prelude.{Ok, Err}
 use Rattle.limits.specs.Questions.{Called}
 use Rattle.limits.specs.Tables.{Reply, capacity, put, remove}
 use Rattle.limits.specs.Events.{lose_data, lose_reply}
@@ -45,36 +46,36 @@ module _ (t : ReplyTable) where
 
 module _ (k : Link) (p : Parts k) (n : ℕ) (r : Progress) where
   pub data-lost : (t : DataTable) (supply b : List ℕ) → n < k.datas.count → DataHolds k.limits t (remove n (data_messages k.datas))
-      → Stayed (record { limits = k.limits; mat = k.mat; pad = k.pad; datas = t; replies = k.replies }) Done r → Moves k supply b b (lose_data n) r
+      → Stayed (record { limits = k.limits; mat = k.mat; pad = k.pad; datas = t; replies = k.replies }) (Ok tt) r → Moves k supply b b (lose_data n) r
   unfolding link_state
   data-lost t supply b f h s =
-      stays-done _ k _ r Done b _ s (place-passed (data_messages k.datas) k.datas.count (length-data k.datas.count k.datas.words) n f) refl
+      stays-done _ k _ r (Ok tt) b _ s (place-passed (data_messages k.datas) k.datas.count (length-data k.datas.count k.datas.words) n f) refl
       (ap (λ ms. record { limits = k.limits; mat = mat_state k.limits.window k.mat; pad = pad_state k.limits.window k.pad; datas = ms; replies = reply_messages k.replies }) h.1)
       (whole _ (record { limits = p.limits; mat = p.mat; pad = p.pad; datas = h.0; replies = p.replies }))
 
-  pub no-data : (supply b : List ℕ) → k.datas.count ≤ n → Stayed k NoMessage r → Moves k supply b b (lose_data n) r
+  pub no-data : (supply b : List ℕ) → k.datas.count ≤ n → Stayed k (Err NoMessage) r → Moves k supply b b (lose_data n) r
   unfolding link_state
   no-data supply b f s =
-      stays-refused _ k r NoMessage b _ s (place-refused (data_messages k.datas) k.datas.count (length-data k.datas.count k.datas.words) n f) refl
+      stays-refused _ k r (Err NoMessage) b _ s (place-refused (data_messages k.datas) k.datas.count (length-data k.datas.count k.datas.words) n f) refl
 
   pub reply-lost : (t : ReplyTable) (supply b : List ℕ) → n < k.replies.count → ReplyHolds k.limits t (remove n (reply_messages k.replies))
-      → Stayed (record { limits = k.limits; mat = k.mat; pad = k.pad; datas = k.datas; replies = t }) Done r → Moves k supply b b (lose_reply n) r
+      → Stayed (record { limits = k.limits; mat = k.mat; pad = k.pad; datas = k.datas; replies = t }) (Ok tt) r → Moves k supply b b (lose_reply n) r
   unfolding link_state
   reply-lost t supply b f h s =
-      stays-done _ k _ r Done b _ s (place-passed (reply_messages k.replies) k.replies.count (length-replies k.replies.count k.replies.words) n f) refl
+      stays-done _ k _ r (Ok tt) b _ s (place-passed (reply_messages k.replies) k.replies.count (length-replies k.replies.count k.replies.words) n f) refl
       (ap (λ ms. record { limits = k.limits; mat = mat_state k.limits.window k.mat; pad = pad_state k.limits.window k.pad; datas = data_messages k.datas; replies = ms }) h.1)
       (whole _ (record { limits = p.limits; mat = p.mat; pad = p.pad; datas = p.datas; replies = h.0 }))
 
-  pub no-reply : (supply b : List ℕ) → k.replies.count ≤ n → Stayed k NoMessage r → Moves k supply b b (lose_reply n) r
+  pub no-reply : (supply b : List ℕ) → k.replies.count ≤ n → Stayed k (Err NoMessage) r → Moves k supply b b (lose_reply n) r
   unfolding link_state
   no-reply supply b f s =
-      stays-refused _ k r NoMessage b _ s (place-refused (reply_messages k.replies) k.replies.count (length-replies k.replies.count k.replies.words) n f) refl
+      stays-refused _ k r (Err NoMessage) b _ s (place-refused (reply_messages k.replies) k.replies.count (length-replies k.replies.count k.replies.words) n f) refl
 
   -- data message n left the table
   module _ (left : DataTable) (h : DataHolds k.limits left (remove n (data_messages k.datas))) where
     pub new-taken : (pad : Pad) → sound_pad k.limits pad ≡ true
-        → Stayed (record { limits = k.limits; mat = k.mat; pad = pad; datas = left; replies = k.replies }) Done r
-        → (r.answer ≡ Done) × (sound_link r.link ≡ true) × (r.counts ≡ no_counts)
+        → Stayed (record { limits = k.limits; mat = k.mat; pad = pad; datas = left; replies = k.replies }) (Ok tt) r
+        → (r.answer ≡ (Ok tt)) × (sound_link r.link ≡ true) × (r.counts ≡ no_counts)
         × (link_state r.link ≡ new_taken (link_state k) n (pad_state k.limits.window pad))
     unfolding link_state
     new-taken pad q s = (
@@ -87,15 +88,15 @@ module _ (k : Link) (p : Parts k) (n : ℕ) (r : Progress) where
 
     pub old-taken : (x : Reply) (into : ReplyTable) (b : List ℕ) → ltb (length (reply_messages k.replies)) capacity ≡ true
         → ReplyHolds k.limits into (put (record { body = x; life = k.limits.replylife }) (reply_messages k.replies))
-        → Stayed (record { limits = k.limits; mat = k.mat; pad = k.pad; datas = left; replies = into }) Done r
+        → Stayed (record { limits = k.limits; mat = k.mat; pad = k.pad; datas = left; replies = into }) (Ok tt) r
         → Called (room_questions 18 (reply_messages k.replies)) r.answer (shown r b) (unmoved (old_taken (link_state k) n x) b) (unmoved (link_state k) b) sound_link k r.link
     unfolding link_state
     old-taken x into b e d s =
-        stays-done _ k _ r Done b _ s (sym (pick_yes _ _ _ _ e refl)) refl
+        stays-done _ k _ r (Ok tt) b _ s (sym (pick_yes _ _ _ _ e refl)) refl
         (ap₂ (λ ms rs. record { limits = k.limits; mat = mat_state k.limits.window k.mat; pad = pad_state k.limits.window k.pad; datas = ms; replies = rs }) h.1 d.1)
         (whole _ (record { limits = p.limits; mat = p.mat; pad = p.pad; datas = h.0; replies = d.0 }))
 
   -- the reply table has no place for the reply to an old row
-  pub old-refused : (x : Reply) (b : List ℕ) → ltb (length (reply_messages k.replies)) capacity ≡ false → Stayed k ReplyTableFull r
+  pub old-refused : (x : Reply) (b : List ℕ) → ltb (length (reply_messages k.replies)) capacity ≡ false → Stayed k (Err ReplyTableFull) r
       → Called (room_questions 18 (reply_messages k.replies)) r.answer (shown r b) (unmoved (old_taken (link_state k) n x) b) (unmoved (link_state k) b) sound_link k r.link
-  old-refused x b e s = stays-refused _ k r ReplyTableFull b _ s (sym (pick_no _ _ _ _ e refl)) refl
+  old-refused x b e s = stays-refused _ k r (Err ReplyTableFull) b _ s (sym (pick_no _ _ _ _ e refl)) refl

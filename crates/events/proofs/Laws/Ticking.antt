@@ -3,7 +3,7 @@ use Prim.Native.Nat.{ℕ}
 use mathlib.Core.Path.{◌≡◌, refl}
 use mathlib.Core.Bool.{true}
 use mathlib.Core.List.{List, []}
-use Rattle.limits.specs.declared.answer.Answer.TheVariants.{Done}
+use Rattle.std.specs.Prelude.{Ok, Err}
 use Rattle.limits.specs.Tables.{age}
 use Rattle.limits.specs.Events.{tick}
 use Rattle.mat.specs.View as mat
@@ -27,10 +27,10 @@ module _ (k : Link) (p : Parts k) (d : ℕ) (m : Mat) (q : Pad) (ds : DataTable)
       → (pad.sound_pad k.limits q ≡ true) × (pad.pad_state k.limits.window q ≡ pad_rules.ticked d (pad.pad_state k.limits.window k.pad))
       → DataHolds k.limits ds (age d (data_messages k.datas)) → ReplyHolds k.limits rs (age d (reply_messages k.replies))
       → (r : Progress) (supply b : List ℕ)
-      → Stayed (record { limits = k.limits; mat = m; pad = q; datas = ds; replies = rs }) Done r → Moves k supply b b (tick d) r
+      → Stayed (record { limits = k.limits; mat = m; pad = q; datas = ds; replies = rs }) (Ok tt) r → Moves k supply b b (tick d) r
   unfolding link_state
   ticks cm cp cd cr r supply b s =
-      stays-done [] k _ r Done b _ s refl refl
+      stays-done [] k _ r (Ok tt) b _ s refl refl
       (λ i. record {
         limits = k.limits;
         mat = cm.1 i;

@@ -8,7 +8,7 @@ use lib.Dec.{eqb, leb}
 use lib.ListN.{replicate}
 use borrow.Author.Tests.{eqb-true, eqb-false, leb-true}
 use Rattle.limits.specs.declared.Limits.{Limits}
-use Rattle.limits.specs.declared.answer.Answer.{Answer}
+use Rattle.limits.specs.Questions.{Answer}
 use Rattle.limits.specs.Answer.{number_of}
 use Rattle.limits.specs.Limits.{limits_questions, accepted, zero_limits}
 use Rattle.limits.specs.Questions.{pick, Question, ask, first_no, Answers, Called}

@@ -7,8 +7,8 @@ use lib.Dec.{eqb, leb}
 use lib.ListN.{length}
 use native.Mathlib.Omega.{arith}
 use borrow.Author.Tests.{le-leb, lt-leb, eq-eqb, ne_eqb, eqb-true}
-use Rattle.limits.specs.declared.answer.Answer.{Answer}
-use Rattle.limits.specs.declared.answer.Answer.TheVariants.{Done}
+use Rattle.limits.specs.Questions.{Answer}
+use Rattle.std.specs.Prelude.{Ok, Err}
 use Rattle.limits.specs.Answer.{number_of}
 use Rattle.limits.specs.Questions.{Question, ask, first_no, Answers}
 use Rattle.limits.proofs.Laws.Promise.{answers-done, answers-refused}
@@ -92,8 +92,8 @@ module _ (bytes : List ℕ) where
         (eqb-true (length bytes) (size_of bytes) p23.0 ∙ k.size, sym (ap first_no k.asked) ∙ p23.1)
 
     -- what a reader answers where all is passed
-    pub read_done : (shown : Reading) → length bytes ≡ n → 0 ≡ first_no qs → shown ≡ r → Answers (read_questions bytes) Done shown (reading bytes) nothing_read
-    read_done shown h e s = answers-done _ Done _ _ _ (e ∙ sym (right-length h)) refl (s ∙ sym k.means)
+    pub read_done : (shown : Reading) → length bytes ≡ n → 0 ≡ first_no qs → shown ≡ r → Answers (read_questions bytes) (Ok tt) shown (reading bytes) nothing_read
+    read_done shown h e s = answers-done _ (Ok tt) _ _ _ (e ∙ sym (right-length h)) refl (s ∙ sym k.means)
 
 -- what it answers where one is not
 shown_read : FrameRead → Reading

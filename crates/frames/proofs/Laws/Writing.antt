@@ -7,8 +7,9 @@ use native.Mathlib.Omega.{arith}
 use lib.Dec.{eqb, leb}
 use lib.ListN.{length, set, take, drop}
 use borrow.Author.Tests.{le-leb, lt-leb}
-use Rattle.limits.specs.declared.answer.Answer.{Answer}
-use Rattle.limits.specs.declared.answer.Answer.TheVariants.{Done, ShortBuffer}
+use Rattle.limits.specs.Questions.{Answer}
+use Rattle.limits.specs.declared.answer.Refusal.TheVariants.{ShortBuffer}
+use Rattle.std.specs.Prelude.{Ok, Err}
 use Rattle.limits.specs.Answer.{number_of}
 use Rattle.limits.specs.Questions.{Question, ask, first_no, Answers}
 use Rattle.limits.proofs.Laws.Promise.{answers-done, answers-refused}
@@ -41,9 +42,9 @@ module _ (qs : List Question) (n : numbered qs ≡ true) (size : ℕ) (entry don
   write-refused a e no_zero = answers-refused _ a _ _ _ (more_stays qs (number_of a) e _ no_zero) no_zero refl
 
   pub write-short : 0 ≡ first_no qs → length entry < size
-      → Answers (qs ++ (ask 28 (leb size (length entry)) ∷ [])) ShortBuffer (writing 0 entry) (writing size done) (writing 0 entry)
-  write-short e h = answers-refused _ ShortBuffer _ _ _ (more-fails qs 0 e 28 _ n refl (lt-leb size (length entry) h)) refl refl
+      → Answers (qs ++ (ask 28 (leb size (length entry)) ∷ [])) (Err ShortBuffer) (writing 0 entry) (writing size done) (writing 0 entry)
+  write-short e h = answers-refused _ (Err ShortBuffer) _ _ _ (more-fails qs 0 e 28 _ n refl (lt-leb size (length entry) h)) refl refl
 
   pub write_done : (exit : List ℕ) → 0 ≡ first_no qs → size ≤ length entry → exit ≡ done
-      → Answers (qs ++ (ask 28 (leb size (length entry)) ∷ [])) Done (writing size exit) (writing size done) (writing 0 entry)
-  write_done exit e h same = answers-done _ Done _ _ _ (more-passes qs 0 e 28 _ n refl (le-leb size (length entry) h)) refl (ap (writing size) same)
+      → Answers (qs ++ (ask 28 (leb size (length entry)) ∷ [])) (Ok tt) (writing size exit) (writing size done) (writing 0 entry)
+  write_done exit e h same = answers-done _ (Ok tt) _ _ _ (more-passes qs 0 e 28 _ n refl (le-leb size (length entry) h)) refl (ap (writing size) same)

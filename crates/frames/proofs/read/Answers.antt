@@ -1,7 +1,8 @@
 use native.Mathlib.Omega.{arith}
 use mathlib.Core.Path.{refl}
 use Rattle.frames.proofs.Laws.Reading.{no_byte, no_kind, read-refused}
-use Rattle.limits.specs.declared.answer.Answer.TheVariants.{UnknownFrame}
+use Rattle.limits.specs.declared.answer.Refusal.TheVariants.{UnknownFrame}
+use Rattle.std.specs.Prelude.{Ok, Err}
 use Rattle.frames.proofs.read.Goals as goal
 
 pub bounds-bytes-0 : goal.bounds-bytes-0
@@ -20,7 +21,7 @@ pub returns-then-kind-eq2 : goal.returns-then-kind-eq2
 returns-then-kind-eq2 c = c.read_reply.ensures
 
 pub returns-else-kind-eq2 : goal.returns-else-kind-eq2
-returns-else-kind-eq2 c = read-refused _ _ UnknownFrame _ c.refused.ensures (no_kind c.args.bytes.now c.if-kind-eq1.false c.if-kind-eq2.false) refl
+returns-else-kind-eq2 c = read-refused _ _ (Err UnknownFrame) _ c.refused.ensures (no_kind c.args.bytes.now c.if-kind-eq1.false c.if-kind-eq2.false) refl
 
 pub returns-else-bytes-ge1 : goal.returns-else-bytes-ge1
-returns-else-bytes-ge1 c = read-refused _ _ UnknownFrame _ c.refused-else-bytes-ge1.ensures (no_byte c.args.bytes.now (omega arith)) refl
+returns-else-bytes-ge1 c = read-refused _ _ (Err UnknownFrame) _ c.refused-else-bytes-ge1.ensures (no_byte c.args.bytes.now (omega arith)) refl

@@ -4,7 +4,7 @@ use mathlib.Core.Path.{◌≡◌}
 use mathlib.Core.Bool.{Bool}
 use mathlib.Core.List.{List}
 use Rattle.limits.specs.declared.Limits.{Limits}
-use Rattle.limits.specs.declared.answer.Answer.{Answer}
+use Rattle.limits.specs.Questions.{Answer}
 use Rattle.mat.specs.declared.Mat.{Mat}
 use Rattle.mat.specs.View.{mat_of}
 use Rattle.pad.specs.declared.Pad.{Pad}

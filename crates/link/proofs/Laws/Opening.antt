@@ -3,7 +3,7 @@ use mathlib.Core.Path.{◌≡◌, ◌∙◌, ap}
 use mathlib.Core.List.{List}
 use lib.Dec.{eqb}
 use Rattle.limits.specs.declared.Limits.{Limits}
-use Rattle.limits.specs.declared.answer.Answer.{Answer}
+use Rattle.limits.specs.Questions.{Answer}
 use Rattle.limits.specs.Questions.{Question, first_no, Answers}
 use Rattle.mat.specs.declared.Mat.{Mat}
 use Rattle.mat.specs.View.{fresh_mat}

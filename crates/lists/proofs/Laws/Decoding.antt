@@ -4,7 +4,8 @@ use mathlib.Core.Path.{◌≡◌, refl, sym}
 use mathlib.Core.Bool.{false}
 use mathlib.Core.List.{List}
 use borrow.Author.Tests.{ne_eqb, le-leb, lt-leb}
-use Rattle.limits.specs.declared.answer.Answer.TheVariants.{UnknownKind, BadArgument}
+use Rattle.limits.specs.declared.answer.Refusal.TheVariants.{UnknownKind, BadArgument}
+use Rattle.std.specs.Prelude.{Ok, Err}
 use Rattle.limits.specs.Questions.{pick}
 use Rattle.limits.specs.Events.{Event, event, unknown, misfit, send, resend, arrive_data, reply, arrive_reply, lose_data, lose_reply, tick}
 use Rattle.limits.proofs.Laws.Choice.{pick_no}
@@ -69,8 +70,8 @@ module _ (k : Link) (supply before after : List ℕ) (e e' : Event) (r : Progres
   moves-as q m = rw q m
 
 module _ (k : Link) (supply b : List ℕ) (e : Event) (r : Progress) where
-  pub misfit-stays : e ≡ misfit → Stayed k BadArgument r → Moves k supply b b e r
-  misfit-stays q s = moves-as k supply b b misfit e r q (stays-refused _ k r BadArgument b _ s (sym (pick_no false 0 9 9 refl refl)) refl)
+  pub misfit-stays : e ≡ misfit → Stayed k (Err BadArgument) r → Moves k supply b b e r
+  misfit-stays q s = moves-as k supply b b misfit e r q (stays-refused _ k r (Err BadArgument) b _ s (sym (pick_no false 0 9 9 refl refl)) refl)
 
-  pub unknown-stays : e ≡ unknown → Stayed k UnknownKind r → Moves k supply b b e r
-  unknown-stays q s = moves-as k supply b b unknown e r q (stays-refused _ k r UnknownKind b _ s (sym (pick_no false 0 8 8 refl refl)) refl)
+  pub unknown-stays : e ≡ unknown → Stayed k (Err UnknownKind) r → Moves k supply b b e r
+  unknown-stays q s = moves-as k supply b b unknown e r q (stays-refused _ k r (Err UnknownKind) b _ s (sym (pick_no false 0 8 8 refl refl)) refl)

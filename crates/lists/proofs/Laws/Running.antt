@@ -19,7 +19,7 @@ use Rattle.mat.specs.Window.{Kept, outstanding}
 use Rattle.mat.specs.View.{outstanding_of, mark_at, cells_at, mat_state, mat_of}
 use Rattle.mat.proofs.Laws.Sound.{facts}
 use Rattle.limits.specs.declared.Limits.{Limits}
-use Rattle.limits.specs.declared.answer.Answer.{Answer}
+use Rattle.limits.specs.Questions.{Answer}
 use Rattle.pad.specs.View.{pad_of}
 use Rattle.air.specs.Data.{data_table}
 use Rattle.air.specs.Replies.{reply_table}

@@ -9,7 +9,8 @@ use lib.ListN.{length, take, drop, length-append, length-drop, length-replicate}
 use lib.Seq.{take_all, length-take-le}
 use borrow.Author.Tests.{eq-eqb, leb-true, le-leb, lt-leb}
 use Rattle.limits.specs.declared.Limits.{Limits}
-use Rattle.limits.specs.declared.answer.Answer.TheVariants.{Done, ShortBuffer}
+use Rattle.limits.specs.declared.answer.Refusal.TheVariants.{ShortBuffer}
+use Rattle.std.specs.Prelude.{Ok, Err}
 use Rattle.limits.specs.Answer.{number_of}
 use Rattle.limits.specs.Lists.{tab}
 use Rattle.limits.specs.Questions.{first_no}
@@ -151,15 +152,15 @@ module _ (input : List ℕ) (e : readable input ≡ true) (asked : Limits) (byte
 
 -- question 28, passed and answered no
 pub reported : (input before after : List ℕ) (n : ℕ) → output_length ≤ length before → Wrote 0 (text_of input) before after n
-    → Reports input before after (record { answer = Done; count = n })
+    → Reports input before after (record { answer = (Ok tt); count = n })
 reported input before after n h w =
     let count : n ≡ length (text_of input) = (let b = w.behind in omega arith) in
-    answers-done (output_questions before) Done _ _ _ (sym (pick_yes _ _ _ _ (le-leb output_length (length before) h) refl)) refl
+    answers-done (output_questions before) (Ok tt) _ _ _ (sym (pick_yes _ _ _ _ (le-leb output_length (length before) h) refl)) refl
     (ap₂ writing count (w.buffer ∙ wrote-front (text_of input) before))
 
-pub not-reported : (input before : List ℕ) → length before < output_length → Reports input before before (record { answer = ShortBuffer; count = 0 })
+pub not-reported : (input before : List ℕ) → length before < output_length → Reports input before before (record { answer = (Err ShortBuffer); count = 0 })
 not-reported input before h =
-    answers-refused (output_questions before) ShortBuffer _ _ _ (sym (pick_no _ _ _ _ (lt-leb output_length (length before) h) refl)) refl refl
+    answers-refused (output_questions before) (Err ShortBuffer) _ _ _ (sym (pick_no _ _ _ _ (lt-leb output_length (length before) h) refl)) refl refl
 
 -- what a caller may read of its output
 pub count_fits : (input before after : List ℕ) (r : Written) → Reports input before after r → r.count ≤ length after

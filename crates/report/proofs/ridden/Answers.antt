@@ -21,7 +21,7 @@ pub slice_bounds-ride-end-3 : goal.slice_bounds-ride-end-3
 slice_bounds-ride-end-3 c = sym (front_length _ _ (length-replicate {A = ℕ} 4080 0) c.row_count-cells.ensures.1)
 
 pub returns-in_default : goal.returns-in_default
-returns-in_default c = same-wrote _ _ _ _ _ _ (ride-refused _ c.requires.0 _ _ _ _ _ _ _ c.ride-outcome.result c.limits_of-asked.ensures (events-part _ _ c.event_start-start.ensures) (rows-part _ _ _ c.supply_of-supply.ensures c.row_count-cells.ensures.0 c.row_count-cells.ensures.1) (rows_long _ _ _ (length-replicate {A = ℕ} 4080 0) c.row_count-cells.ensures.0 c.row_count-cells.ensures.1) refl c.ride-outcome.ensures (not_done c.ride-outcome.result.answer c.in_default.not-Done)) c.refused.ensures
+returns-in_default c = same-wrote _ _ _ _ _ _ (ride-refused _ c.requires.0 _ _ _ _ _ _ _ c.ride-outcome.result c.limits_of-asked.ensures (events-part _ _ c.event_start-start.ensures) (rows-part _ _ _ c.supply_of-supply.ensures c.row_count-cells.ensures.0 c.row_count-cells.ensures.1) (rows_long _ _ _ (length-replicate {A = ℕ} 4080 0) c.row_count-cells.ensures.0 c.row_count-cells.ensures.1) refl c.ride-outcome.ensures (not_done c.ride-outcome.result.answer c.in_default.not-Ok)) c.refused.ensures
 
 pub slice_bounds-lines_of-count : goal.slice_bounds-lines_of-count
 slice_bounds-lines_of-count c = let h = is-readable _ c.requires.0 in omega arith
@@ -30,7 +30,7 @@ pub slice_bounds-lines_of-start : goal.slice_bounds-lines_of-start
 slice_bounds-lines_of-start c = let h = is-readable _ c.requires.0 in omega arith
 
 pub lines_of-requires : goal.lines_of-requires
-lines_of-requires c = ride-room _ c.requires.0 _ _ _ _ _ _ _ c.ride-outcome.result c.limits_of-asked.ensures (events-part _ _ c.event_start-start.ensures) (rows-part _ _ _ c.supply_of-supply.ensures c.row_count-cells.ensures.0 c.row_count-cells.ensures.1) (rows_long _ _ _ (length-replicate {A = ℕ} 4080 0) c.row_count-cells.ensures.0 c.row_count-cells.ensures.1) refl c.ride-outcome.ensures (ap number_of c.in-Done.is) _ (let n = c.row_count-cells.ensures in omega arith) c.requires.1
+lines_of-requires c = ride-room _ c.requires.0 _ _ _ _ _ _ _ c.ride-outcome.result c.limits_of-asked.ensures (events-part _ _ c.event_start-start.ensures) (rows-part _ _ _ c.supply_of-supply.ensures c.row_count-cells.ensures.0 c.row_count-cells.ensures.1) (rows_long _ _ _ (length-replicate {A = ℕ} 4080 0) c.row_count-cells.ensures.0 c.row_count-cells.ensures.1) refl c.ride-outcome.ensures (ap number_of c.in-Ok.is) _ (let n = c.row_count-cells.ensures in omega arith) c.requires.1
 
 pub returns : goal.returns
-returns c = same-wrote _ _ _ _ _ _ (ride-text _ c.requires.0 _ _ _ _ _ _ _ c.ride-outcome.result c.limits_of-asked.ensures (events-part _ _ c.event_start-start.ensures) (rows-part _ _ _ c.supply_of-supply.ensures c.row_count-cells.ensures.0 c.row_count-cells.ensures.1) (rows_long _ _ _ (length-replicate {A = ℕ} 4080 0) c.row_count-cells.ensures.0 c.row_count-cells.ensures.1) refl c.ride-outcome.ensures (ap number_of c.in-Done.is)) c.lines_of.ensures
+returns c = same-wrote _ _ _ _ _ _ (ride-text _ c.requires.0 _ _ _ _ _ _ _ c.ride-outcome.result c.limits_of-asked.ensures (events-part _ _ c.event_start-start.ensures) (rows-part _ _ _ c.supply_of-supply.ensures c.row_count-cells.ensures.0 c.row_count-cells.ensures.1) (rows_long _ _ _ (length-replicate {A = ℕ} 4080 0) c.row_count-cells.ensures.0 c.row_count-cells.ensures.1) refl c.ride-outcome.ensures (ap number_of c.in-Ok.is)) c.lines_of.ensures

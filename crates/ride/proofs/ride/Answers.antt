@@ -6,8 +6,8 @@ use Rattle.ride.proofs.ride.Goals as goal
 
 pub returns-in_default : goal.returns-in_default
 returns-in_default c =
-    rode-unopened _ _ _ _ _ _ c.open-opening.ensures _ (not_done c.open-opening.result.answer c.in_default.not-Done) refl refl
+    rode-unopened _ _ _ _ _ _ c.open-opening.ensures _ (not_done c.open-opening.result.answer c.in_default.not-Ok) refl refl
 
 pub returns : goal.returns
 returns c =
-    rode-run _ _ _ _ _ _ c.open-opening.ensures _ _ _ (ap number_of c.in-Done.is) c.run-progress.ensures _ refl refl
+    rode-run _ _ _ _ _ _ c.open-opening.ensures _ _ _ (ap number_of c.in-Ok.is) c.run-progress.ensures _ refl refl

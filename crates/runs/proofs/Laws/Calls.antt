@@ -6,8 +6,9 @@ use mathlib.Core.List.{List, [], ◌∷◌, ◌++◌}
 use lib.Dec.{eqb, leb}
 use lib.ListN.{length, take}
 use borrow.Author.Tests.{eq-eqb, ne_eqb, le-leb, lt-leb, eqb-true, leb-true}
-use Rattle.limits.specs.declared.answer.Answer.{Answer}
-use Rattle.limits.specs.declared.answer.Answer.TheVariants.{Unsound, PartialRow}
+use Rattle.limits.specs.Questions.{Answer}
+use Rattle.limits.specs.declared.answer.Refusal.TheVariants.{Unsound, PartialRow}
+use Rattle.std.specs.Prelude.{Ok, Err}
 use Rattle.limits.specs.Answer.{number_of}
 use Rattle.limits.specs.Questions.{Question, ask, first_no}
 use Rattle.limits.specs.Lists.{all}
@@ -31,13 +32,13 @@ no-later : (code : ℕ) (b : Bool) (qs : List Question) (found : ℕ) → b ≡ 
 no-later code b qs found e f = f ∙ sym (pick_yes b (first_no qs) code (first_no qs) e refl)
 
 module _ (k : Link) (kind argument : ℕ) (supply before : List ℕ) (r : Progress) where
-  pub step-unsound : sound_link k ≡ false → Stayed k Unsound r → Stepped k kind argument supply before before r
-  step-unsound e s = stays-refused (ask 4 (sound_link k) ∷ (whole_rows supply ++ questions supply (length before) (link_state k) (event kind argument))) k r Unsound before _ s (no-first 4 (sound_link k) (whole_rows supply ++ questions supply (length before) (link_state k) (event kind argument)) e) refl
+  pub step-unsound : sound_link k ≡ false → Stayed k (Err Unsound) r → Stepped k kind argument supply before before r
+  step-unsound e s = stays-refused (ask 4 (sound_link k) ∷ (whole_rows supply ++ questions supply (length before) (link_state k) (event kind argument))) k r (Err Unsound) before _ s (no-first 4 (sound_link k) (whole_rows supply ++ questions supply (length before) (link_state k) (event kind argument)) e) refl
 
   module _ (e : sound_link k ≡ true) where
-    pub step_partial : (length supply % 16 ≡ 0 → ⊥) → Stayed k PartialRow r → Stepped k kind argument supply before before r
+    pub step_partial : (length supply % 16 ≡ 0 → ⊥) → Stayed k (Err PartialRow) r → Stepped k kind argument supply before before r
     step_partial n s =
-        stays-refused (ask 4 (sound_link k) ∷ (whole_rows supply ++ questions supply (length before) (link_state k) (event kind argument))) k r PartialRow before _ s
+        stays-refused (ask 4 (sound_link k) ∷ (whole_rows supply ++ questions supply (length before) (link_state k) (event kind argument))) k r (Err PartialRow) before _ s
         (no-later 4 (sound_link k) (whole_rows supply ++ questions supply (length before) (link_state k) (event kind argument)) 6 e
         (no-first 6 (eqb (length supply % 16) 0) (questions supply (length before) (link_state k) (event kind argument)) (ne_eqb (length supply % 16) 0 n)))
         refl
@@ -61,8 +62,8 @@ module _ (k : Link) (bytes supply before answers : List ℕ) (r : Progress) wher
         still = λ _. s.1;
       }
 
-  pub run-unsound : sound_link k ≡ false → Stayed k Unsound r → Ran k bytes supply before before answers answers r
-  run-unsound e s = run-refused Unsound s (no-first 4 (sound_link k) (lent_questions bytes supply answers) e) refl
+  pub run-unsound : sound_link k ≡ false → Stayed k (Err Unsound) r → Ran k bytes supply before before answers answers r
+  run-unsound e s = run-refused (Err Unsound) s (no-first 4 (sound_link k) (lent_questions bytes supply answers) e) refl
 
   -- 5, 6 or 7
   pub run-asked : (a : Answer) → sound_link k ≡ true → number_of a ≡ first_no (lent_questions bytes supply answers) → eqb (number_of a) 0 ≡ false → Stayed k a r

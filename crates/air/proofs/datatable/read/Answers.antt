@@ -14,12 +14,12 @@ pub found-answer-requires : goal.found-answer-requires
 found-answer-requires c = let h : length c.args.t.words ≡ 576 = search rules in omega arith
 
 pub returns-in_default : goal.returns-in_default
-returns-in_default c = answers-refused _ _ _ _ _ (ap number_of c.unread.ensures.0 ∙ c.found-answer.ensures ∙ data-asked-place c.args.l (lent c.args.t.count c.args.t.words) c.args.p) (ap (λ a. eqb (number_of a) 0) c.unread.ensures.0 ∙ not_done c.found-answer.result c.in_default.not-Done) c.unread.ensures.1
+returns-in_default c = answers-refused _ _ _ _ _ (ap number_of c.unread.ensures.0 ∙ c.found-answer.ensures ∙ data-asked-place c.args.l (lent c.args.t.count c.args.t.words) c.args.p) (ap (λ a. eqb (number_of a) 0) c.unread.ensures.0 ∙ not_done c.found-answer.result c.in_default.not-Ok) c.unread.ensures.1
 
 pub data_at-requires : goal.data_at-requires
-data_at-requires c = let h : length c.args.t.words ≡ 576 = search rules in let p = found_below c.args.l OfData c.args.t.count c.args.t.words c.args.p c.found-answer.result c.found-answer.ensures (ap number_of c.in-Done.is) in omega arith
+data_at-requires c = let h : length c.args.t.words ≡ 576 = search rules in let p = found_below c.args.l OfData c.args.t.count c.args.t.words c.args.p c.found-answer.result c.found-answer.ensures (ap number_of c.in-Ok.is) in omega arith
 
 pub returns : goal.returns
 returns c =
-    let p = found_below c.args.l OfData c.args.t.count c.args.t.words c.args.p c.found-answer.result c.found-answer.ensures (ap number_of c.in-Done.is) in
-    answers-done _ _ _ _ _ (c.found-answer.ensures ∙ data-asked-place c.args.l (lent c.args.t.count c.args.t.words) c.args.p) (ap number_of c.in-Done.is) (c.data_at.ensures ∙ data-at _ _ _ p.0)
+    let p = found_below c.args.l OfData c.args.t.count c.args.t.words c.args.p c.found-answer.result c.found-answer.ensures (ap number_of c.in-Ok.is) in
+    answers-done _ _ _ _ _ (c.found-answer.ensures ∙ data-asked-place c.args.l (lent c.args.t.count c.args.t.words) c.args.p) (ap number_of c.in-Ok.is) (c.data_at.ensures ∙ data-at _ _ _ p.0)

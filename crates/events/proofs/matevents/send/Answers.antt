@@ -18,7 +18,7 @@ use Rattle.events.proofs.matevents.send.Goals as goal
 
 pub returns-in_default : goal.returns-in_default
 unfolding link_state
-returns-in_default c = let u = c.next_row-found in let z = not_done u.result.answer c.in_default.not-Done in
+returns-in_default c = let u = c.next_row-found in let z = not_done u.result.answer c.in_default.not-Ok in
     λ marks held padtimers padcells replies b h. lent-refused _ _ _ _ _ _ _ b _ refl c.stays.ensures (more_stays (send_questions c.args.l (mat_state c.args.l.window (mat_of c.args.n.oldest c.args.n.next marks c.args.mattimers.now c.args.matcells.now)) c.args.supply.now) _ (u.ensures marks c.args.mattimers.now c.args.matcells.now).number (room_questions 13 (data_messages (data_table c.args.n.datas c.args.datas.now))) z) z
 
 pub put_data-count-requires : goal.put_data-count-requires
@@ -26,7 +26,7 @@ put_data-count-requires c = (c.requires.0, ltb-true c.args.n.datas 32 (sym c.roo
 
 pub returns-then-room : goal.returns-then-room
 unfolding link_state all
-returns-then-room c = let u = c.next_row-found in let e = ap number_of c.in-Done.is in
+returns-then-room c = let u = c.next_row-found in let e = ap number_of c.in-Ok.is in
     λ marks held padtimers padcells replies b h.
     let p = parts _ h in let m = mat_of c.args.n.oldest c.args.n.next marks c.args.mattimers.now c.args.matcells.now in
     let a = u.ensures marks c.args.mattimers.now c.args.matcells.now in
@@ -36,4 +36,4 @@ returns-then-room c = let u = c.next_row-found in let e = ap number_of c.in-Done
 
 pub returns-else-room : goal.returns-else-room
 unfolding link_state all
-returns-else-room c = let u = c.next_row-found in λ marks held padtimers padcells replies b h. lent-refused _ _ _ _ _ _ _ b _ refl c.stays-else-room.ensures (more-fails (send_questions c.args.l (mat_state c.args.l.window (mat_of c.args.n.oldest c.args.n.next marks c.args.mattimers.now c.args.matcells.now)) c.args.supply.now) _ (u.ensures marks c.args.mattimers.now c.args.matcells.now).number 13 _ refl (ap number_of c.in-Done.is) (data-room (data_table c.args.n.datas c.args.datas.now) _ (sym c.room.ensures ∙ c.if-room.false))) refl
+returns-else-room c = let u = c.next_row-found in λ marks held padtimers padcells replies b h. lent-refused _ _ _ _ _ _ _ b _ refl c.stays-else-room.ensures (more-fails (send_questions c.args.l (mat_state c.args.l.window (mat_of c.args.n.oldest c.args.n.next marks c.args.mattimers.now c.args.matcells.now)) c.args.supply.now) _ (u.ensures marks c.args.mattimers.now c.args.matcells.now).number 13 _ refl (ap number_of c.in-Ok.is) (data-room (data_table c.args.n.datas c.args.datas.now) _ (sym c.room.ensures ∙ c.if-room.false))) refl

@@ -24,26 +24,26 @@ run_length-run-requires c = (c.requires.0, (facts c.args.l (pad_of c.args.n.want
 
 pub returns-in_default : goal.returns-in_default
 unfolding link_state
-returns-in_default c = let u = c.run_length-run in let z = not_done u.result.answer c.in_default.not-Done in
+returns-in_default c = let u = c.run_length-run in let z = not_done u.result.answer c.in_default.not-Ok in
     λ marks mattimers matcells datas h. lent-refused _ _ _ _ _ _ _ _ _ refl c.stays.ensures (nothing-ready (pad_state c.args.l.window (pad_of c.args.n.wanted c.args.held.now c.args.padtimers.now c.args.padcells.now)) (length c.args.«record».now) (reply_messages (reply_table c.args.n.replies c.args.replies.now)) _ (u.ensures c.args.padcells.now).number z) z
 
 pub overflow_mul-count : goal.overflow_mul-count
-overflow_mul-count c = let n = count-is (pad_state c.args.l.window (pad_of c.args.n.wanted c.args.held.now c.args.padtimers.now c.args.padcells.now)) _ (c.run_length-run.ensures c.args.padcells.now) (ap number_of c.in-Done.is) in
+overflow_mul-count c = let n = count-is (pad_state c.args.l.window (pad_of c.args.n.wanted c.args.held.now c.args.padtimers.now c.args.padcells.now)) _ (c.run_length-run.ensures c.args.padcells.now) (ap number_of c.in-Ok.is) in
     let m = count_fits c.args.l c.requires.0 (pad_of c.args.n.wanted c.args.held.now c.args.padtimers.now c.args.padcells.now) c.requires.1 _ n in omega (arith, m.1)
 
 pub record_run-passed-requires : goal.record_run-passed-requires
-record_run-passed-requires c = let a = c.run_length-run.ensures c.args.padcells.now in let e = ap number_of c.in-Done.is in
+record_run-passed-requires c = let a = c.run_length-run.ensures c.args.padcells.now in let e = ap number_of c.in-Ok.is in
     let n = count-is (pad_state c.args.l.window (pad_of c.args.n.wanted c.args.held.now c.args.padtimers.now c.args.padcells.now)) _ a e in let r = some-ready (pad_state c.args.l.window (pad_of c.args.n.wanted c.args.held.now c.args.padtimers.now c.args.padcells.now)) _ a e in let m = count_fits c.args.l c.requires.0 (pad_of c.args.n.wanted c.args.held.now c.args.padtimers.now c.args.padcells.now) c.requires.1 _ n in
     (c.requires.0, (facts c.args.l (pad_of c.args.n.wanted c.args.held.now c.args.padtimers.now c.args.padcells.now) c.requires.1).low, omega (arith, n, r), m.0, omega (arith, c.if-count-record.true))
 
 pub put_reply-replied-requires : goal.put_reply-replied-requires
-put_reply-replied-requires c = let a = c.run_length-run.ensures c.args.padcells.now in let e = ap number_of c.in-Done.is in
+put_reply-replied-requires c = let a = c.run_length-run.ensures c.args.padcells.now in let e = ap number_of c.in-Ok.is in
     let v = c.record_run-passed in let l = c.args.l in
     (c.requires.0, ltb-true c.args.n.replies 32 (sym c.room.ensures ∙ c.if-room.true), ap (λ (x : Replying). sound_reply l x.reply) (v.ensures c.args.padtimers.now c.requires.1 (count-is (pad_state c.args.l.window (pad_of c.args.n.wanted c.args.held.now c.args.padtimers.now c.args.padcells.now)) _ a e)).1 ∙ replying-sound l c.requires.0 (pad_of c.args.n.wanted c.args.held.now c.args.padtimers.now c.args.padcells.now) c.requires.1 c.args.«record».now (some-ready (pad_state c.args.l.window (pad_of c.args.n.wanted c.args.held.now c.args.padtimers.now c.args.padcells.now)) _ a e))
 
 pub returns-then-room : goal.returns-then-room
 returns-then-room c = let u = c.run_length-run in
-    let a = u.ensures c.args.padcells.now in let e = ap number_of c.in-Done.is in
+    let a = u.ensures c.args.padcells.now in let e = ap number_of c.in-Ok.is in
     let v = c.record_run-passed in let n = count-is (pad_state c.args.l.window (pad_of c.args.n.wanted c.args.held.now c.args.padtimers.now c.args.padcells.now)) _ a e in let r = some-ready (pad_state c.args.l.window (pad_of c.args.n.wanted c.args.held.now c.args.padtimers.now c.args.padcells.now)) _ a e in let fits : 16 * u.result.count ≤ length c.args.«record».now = omega (arith, c.if-count-record.true) in
     λ marks mattimers matcells datas h. let p = parts _ h in
     rw (c.with_wanted.ensures, c.with_replies.ensures, c.recorded_by.ensures)
@@ -51,10 +51,10 @@ returns-then-room c = let u = c.run_length-run in
 
 pub returns-else-room : goal.returns-else-room
 unfolding link_state
-returns-else-room c = let a = c.run_length-run.ensures c.args.padcells.now in let e = ap number_of c.in-Done.is in
+returns-else-room c = let a = c.run_length-run.ensures c.args.padcells.now in let e = ap number_of c.in-Ok.is in
     λ marks mattimers matcells datas h. lent-refused _ _ _ _ _ _ _ _ _ refl c.stays-else-room.ensures (table-full (pad_state c.args.l.window (pad_of c.args.n.wanted c.args.held.now c.args.padtimers.now c.args.padcells.now)) _ (reply_messages (reply_table c.args.n.replies c.args.replies.now)) (some-ready (pad_state c.args.l.window (pad_of c.args.n.wanted c.args.held.now c.args.padtimers.now c.args.padcells.now)) _ a e) _ (count-is (pad_state c.args.l.window (pad_of c.args.n.wanted c.args.held.now c.args.padtimers.now c.args.padcells.now)) _ a e) (let fits : 16 * c.run_length-run.result.count ≤ length c.args.«record».now = omega (arith, c.if-count-record.true) in fits) (reply-room (reply_table c.args.n.replies c.args.replies.now) _ (sym c.room.ensures ∙ c.if-room.false))) refl
 
 pub returns-else-count-record : goal.returns-else-count-record
 unfolding link_state
-returns-else-count-record c = let a = c.run_length-run.ensures c.args.padcells.now in let e = ap number_of c.in-Done.is in
+returns-else-count-record c = let a = c.run_length-run.ensures c.args.padcells.now in let e = ap number_of c.in-Ok.is in
     λ marks mattimers matcells datas h. lent-refused _ _ _ _ _ _ _ _ _ refl c.stays-else-count-record.ensures (record-full (pad_state c.args.l.window (pad_of c.args.n.wanted c.args.held.now c.args.padtimers.now c.args.padcells.now)) _ (reply_messages (reply_table c.args.n.replies c.args.replies.now)) (some-ready (pad_state c.args.l.window (pad_of c.args.n.wanted c.args.held.now c.args.padtimers.now c.args.padcells.now)) _ a e) _ (count-is (pad_state c.args.l.window (pad_of c.args.n.wanted c.args.held.now c.args.padtimers.now c.args.padcells.now)) _ a e) c.if-count-record.false) refl

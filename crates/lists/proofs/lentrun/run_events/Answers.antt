@@ -69,7 +69,7 @@ loop-i-smaller-in_default c = omega (arith, c.loop-i-test.true)
 
 pub loop-i-preserved-in_default : goal.loop-i-preserved-in_default
 loop-i-preserved-in_default c = let t = c.loop-i-test.true in let g = c.loop-i.invariant.1 in let r = room _ _ _ _ _ _ _ _ _ _ g t c.requires.1 c.requires.2 in
-    (omega (arith, t), turn-refused _ _ _ _ _ _ _ _ _ _ g r.event r.answer _ _ (c.event-s.ensures g.sound) c.event-s.auto.record c.number.result c.number.ensures (not_done c.event-s.result.answer c.in_default.not-Done) _ (arrays-kept _ _ _ _ _), last_set c.event-s.result.answer c.loop-i.answers _ _ r.answer c.number.ensures)
+    (omega (arith, t), turn-refused _ _ _ _ _ _ _ _ _ _ g r.event r.answer _ _ (c.event-s.ensures g.sound) c.event-s.auto.record c.number.result c.number.ensures (not_done c.event-s.result.answer c.in_default.not-Ok) _ (arrays-kept _ _ _ _ _), last_set c.event-s.result.answer c.loop-i.answers _ _ r.answer c.number.ensures)
 
 pub sum-counts-requires : goal.sum-counts-requires
 sum-counts-requires c = let t = c.loop-i-test.true in let g = c.loop-i.invariant.1 in let r = room _ _ _ _ _ _ _ _ _ _ g t c.requires.1 c.requires.2 in
