@@ -7,19 +7,6 @@ ghost use Rattle.cframes.specs.Frames.{ReadFrame, WriteFrame};
 use frames::{DataFrame, ReplyFrame};
 use limits::answer::Refusal;
 
-fn narrow(x: usize) -> u16
-    requires { x < 65536 }
-    ensures { result ≡ x }
-{
-    x as u16
-}
-
-fn wide(x: u16) -> usize
-    ensures { result ≡ x }
-{
-    x as usize
-}
-
 // The reader's questions. A data frame gives 1, life, w, number, 0 and its cells; a reply frame 2, life, w, first, last and
 // zeros. A refusal writes nothing.
 pub fn read(frame: &[u8], head: &mut [u16; 5], cells: &mut [u16; 16]) -> u8
@@ -31,14 +18,15 @@ pub fn read(frame: &[u8], head: &mut [u16; 5], cells: &mut [u16; 16]) -> u8
         return limits::answer::number(&answer);
     };
     let f = got.dataframe;
+    // Stays (proof): an array in a field is not proved where it is stored straight from there.
     let row = f.row;
     *cells = row;
     if got.kind == 1 {
-        *head = [1, f.life, narrow(f.window), narrow(f.number), 0];
+        *head = [1, f.life, f.window as u16, f.number as u16, 0];
         0
     } else {
         let g = got.replyframe;
-        *head = [2, g.life, narrow(g.window), narrow(g.first), narrow(g.last)];
+        *head = [2, g.life, g.window as u16, g.first as u16, g.last as u16];
         0
     }
 }
@@ -51,12 +39,11 @@ pub fn write(head: &[u16; 5], cells: &[u16; 16], buffer: &mut [u8], count: &mut 
     let h = *head;
     let kind = h[0];
     if kind == 1 {
-        let row = *cells;
         let f = DataFrame {
             life: h[1],
-            window: wide(h[2]),
-            number: wide(h[3]),
-            row,
+            window: usize::from(h[2]),
+            number: usize::from(h[3]),
+            row: *cells,
         };
         let written = frames::write_data(f, buffer);
         *count = written.count;
@@ -65,9 +52,9 @@ pub fn write(head: &[u16; 5], cells: &[u16; 16], buffer: &mut [u8], count: &mut 
     } else if kind == 2 {
         let f = ReplyFrame {
             life: h[1],
-            window: wide(h[2]),
-            first: wide(h[3]),
-            last: wide(h[4]),
+            window: usize::from(h[2]),
+            first: usize::from(h[3]),
+            last: usize::from(h[4]),
         };
         let written = frames::write_reply(f, buffer);
         *count = written.count;

@@ -9,6 +9,7 @@ pub fn matlink_page(record: &[u16], page: u64, buffer: &mut [u8], count: &mut u6
         (writing (page_bytes «record».now page) (page_into «record».now page buffer.old))
         buffer.old buffer.new count.new result }
 {
+    // Stays (no plainer): std has no From between u64 and usize, which are of one width here.
     let written = page::page(record, page as usize, buffer);
     *count = written.count as u64;
     let answer = written.answer;

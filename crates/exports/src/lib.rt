@@ -2,7 +2,7 @@
 // place; of the state only the marks are copied, which are numbers in C.
 #![tactic(auto)]
 
-ghost use Rattle.std.specs.Prelude.{◌≡◌, ◌%◌};
+ghost use Rattle.std.specs.Prelude.{◌≡◌};
 ghost use Rattle.clinks.specs.Links.{clink};
 ghost use Rattle.exports.specs.Calls.{capped, asked, limits_or_zeros, kind_of, counts_list, OpenCall, StepCall, RunCall, RideCall};
 
@@ -18,7 +18,7 @@ use limits::answer::Refusal;
 fn capped_limit(x: u32) -> u16
     ensures { result ≡ capped x }
 {
-    if x <= 65535 { x as u16 } else { 65535 }
+    u16::try_from(x).unwrap_or(u16::MAX)
 }
 
 fn asked_limits(
@@ -31,7 +31,7 @@ fn asked_limits(
     ensures { result ≡ asked window datalife replylife replywait resendwait }
 {
     Limits {
-        window: clinks::wide(capped_limit(window)),
+        window: usize::from(capped_limit(window)),
         datalife: capped_limit(datalife),
         replylife: capped_limit(replylife),
         replywait: capped_limit(replywait),
@@ -96,17 +96,11 @@ pub fn matlink_lent_open(
 fn kind_byte(kind: u32, argument: u32) -> u8
     ensures { result ≡ kind_of kind argument }
 {
-    if kind <= 255 {
-        if argument <= 255 { kind as u8 } else { 0 }
+    if argument <= 255 {
+        u8::try_from(kind).unwrap_or(0)
     } else {
         0
     }
-}
-
-fn low_byte(x: u32) -> u8
-    ensures { result ≡ x % 256 }
-{
-    (x % 256) as u8
 }
 
 // One event: 4, 6, then the event's questions. The counts are written always, the link where the answer is 0.
@@ -148,7 +142,7 @@ pub fn matlink_lent_step(
         datas,
         replies,
         kind_byte(kind, argument),
-        low_byte(argument),
+        (argument % 256) as u8,
         supply,
         record,
     );

@@ -3,57 +3,45 @@
 // Each line: the answer; kind, life, w and numbers; the cells of a data frame; then the bytes written from these values.
 #![tactic(auto)]
 
-mod print;
-
-ghost use Rattle.std.specs.Prelude.{◌≡◌};
-
 use frames::{DataFrame, ReplyFrame};
 use limits::answer::Refusal;
-use print::number;
+use std::fmt::Display;
 use std::io;
 use std::io::Read;
 
-fn wide(x: u8) -> usize
-    ensures { result ≡ x }
-{
-    x as usize
+// Each number with a space behind it.
+fn numbers<T: Display>(rt: &impl Print, numbers: &[T]) -> io::Result<()> {
+    for n in numbers {
+        print!(rt; "{n} ")?;
+    }
+    Ok(())
 }
 
 fn data(rt: &impl Print, f: DataFrame) -> io::Result<()> {
+    print!(rt; "{} {} {} ", f.life, f.window, f.number)?;
     let row = f.row;
-    number(rt, f.life as u64)?;
-    number(rt, f.window as u64)?;
-    number(rt, f.number as u64)?;
-    print::cells(rt, &row)?;
+    numbers(rt, &row)?;
     let mut buffer = [0u8; 40];
     let w = frames::write_data(f, &mut buffer);
-    let answer = w.answer;
-    number(rt, limits::answer::number(&answer) as u64)?;
-    number(rt, w.count as u64)?;
-    print::bytes(rt, &buffer)
+    print!(rt; "{} {} ", limits::answer::number(w.answer), w.count)?;
+    numbers(rt, &buffer)
 }
 
 fn reply(rt: &impl Print, f: ReplyFrame) -> io::Result<()> {
-    number(rt, f.life as u64)?;
-    number(rt, f.window as u64)?;
-    number(rt, f.first as u64)?;
-    number(rt, f.last as u64)?;
+    print!(rt; "{} {} {} {} ", f.life, f.window, f.first, f.last)?;
     let mut buffer = [0u8; 8];
     let w = frames::write_reply(f, &mut buffer);
-    let answer = w.answer;
-    number(rt, limits::answer::number(&answer) as u64)?;
-    number(rt, w.count as u64)?;
-    print::bytes(rt, &buffer)
+    print!(rt; "{} {} ", limits::answer::number(w.answer), w.count)?;
+    numbers(rt, &buffer)
 }
 
 fn one(rt: &impl Print, frame: &[u8]) -> io::Result<()> {
     let r = frames::read(frame);
     let answer = r.answer;
     let kind = r.kind;
-    number(rt, limits::answer::number(&answer) as u64)?;
-    number(rt, kind as u64)?;
+    print!(rt; "{} {} ", limits::answer::number(&answer), kind)?;
     let Ok(()) = answer else {
-        return print::end(rt);
+        return println!(rt);
     };
     if kind == 1 {
         let f = r.dataframe;
@@ -62,21 +50,17 @@ fn one(rt: &impl Print, frame: &[u8]) -> io::Result<()> {
         let f = r.replyframe;
         reply(rt, f)?;
     }
-    print::end(rt)
+    println!(rt)
 }
 
 fn all(rt: &impl Print, input: &[u8]) -> io::Result<()> {
-    let mut at = 0;
-    while at < input.len() {
-        let start = at + 1;
-        let size = wide(input[at]);
-        if size <= input.len() - start {
-            let end = start + size;
-            one(rt, &input[start..end])?;
-            at = end;
-        } else {
-            return Ok(());
-        }
+    let mut rest = input;
+    while let Some((&size, behind)) = rest.split_first() {
+        let Some((frame, next)) = behind.split_at_checked(usize::from(size)) else {
+            break;
+        };
+        one(rt, frame)?;
+        rest = next;
     }
     Ok(())
 }

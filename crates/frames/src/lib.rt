@@ -30,6 +30,7 @@ ghost use Rattle.buffers.specs.Buffers.{writing, WriteCall};
 
 use buffers::Written;
 use limits::answer::Refusal;
+use std::array;
 
 // A row under its number (a data packet).
 #[derive(Clone, Copy)]
@@ -112,29 +113,11 @@ fn reply_answer(f: ReplyFrame) -> Result<(), Refusal>
     }
 }
 
-fn wide(x: u8) -> u16
-    ensures { (result ≡ x) × (result ≤ 255) }
-{
-    x as u16
-}
-
-fn index(x: u8) -> usize
-    ensures { result ≡ x }
-{
-    x as usize
-}
-
 fn cells_of(bytes: &[u8]) -> [u16; 16]
     requires { length bytes.now ≡ 36 }
     ensures { result ≡ tab 16 (cell_at bytes.now) }
 {
-    let mut row = [0u16; 16];
-    let mut i = 0;
-    while i < 16 {
-        row[i] = wide(bytes[4 + 2 * i]) + 256 * wide(bytes[5 + 2 * i]);
-        i += 1;
-    }
-    row
+    array::from_fn(|k| u16::from_le_bytes([bytes[4 + 2 * k], bytes[5 + 2 * k]]))
 }
 
 fn data_of(bytes: &[u8]) -> DataFrame
@@ -143,9 +126,9 @@ fn data_of(bytes: &[u8]) -> DataFrame
 {
     let row = cells_of(bytes);
     DataFrame {
-        life: wide(bytes[1]),
-        window: index(bytes[2]),
-        number: index(bytes[3]),
+        life: u16::from(bytes[1]),
+        window: usize::from(bytes[2]),
+        number: usize::from(bytes[3]),
         row,
     }
 }
@@ -155,10 +138,10 @@ fn reply_of(bytes: &[u8]) -> ReplyFrame
     ensures { result ≡ reply_of bytes.now }
 {
     ReplyFrame {
-        life: wide(bytes[1]),
-        window: index(bytes[2]),
-        first: index(bytes[3]),
-        last: index(bytes[4]),
+        life: u16::from(bytes[1]),
+        window: usize::from(bytes[2]),
+        first: usize::from(bytes[3]),
+        last: usize::from(bytes[4]),
     }
 }
 
@@ -257,29 +240,15 @@ pub fn read(bytes: &[u8]) -> FrameRead
     }
 }
 
-fn low(x: u16) -> u8
-    ensures { result ≡ x % 256 }
-{
-    (x % 256) as u8
-}
-
-fn high(x: u16) -> u8
-    ensures { result ≡ x / 256 }
-{
-    (x / 256) as u8
-}
-
 // The cells of a data frame, from byte 4 on.
 fn put_cells(buffer: &mut [u8], row: [u16; 16])
     requires { 36 ≤ length buffer.old }
     ensures { buffer.new ≡ take 4 buffer.old ++ cell_bytes row ++ drop 36 buffer.old }
 {
-    let mut i = 0;
-    while i < 16 {
-        let cell = row[i];
-        buffer[4 + 2 * i] = low(cell);
-        buffer[5 + 2 * i] = high(cell);
-        i += 1;
+    for (i, cell) in row.iter().enumerate() {
+        let [low, high] = cell.to_le_bytes();
+        buffer[4 + 2 * i] = low;
+        buffer[5 + 2 * i] = high;
     }
 }
 

@@ -8,3 +8,4 @@ pub mod Good
 pub mod Promise
 pub mod Messages
 pub mod Questions
+pub mod Made

@@ -3,7 +3,6 @@ ghost use Rattle.std.specs.Prelude.{◌≡◌, ◌<◌, ◌≤◌};
 ghost use Rattle.limits.specs.Lists.{tab};
 ghost use Rattle.lines.specs.Input.{
   byte_at,
-  pair_of,
   row_count,
   event_start,
   readable,
@@ -12,36 +11,19 @@ ghost use Rattle.lines.specs.Input.{
 };
 
 use limits::Limits;
+use std::array;
 
 // Byte `at`, and 0 past the end.
 pub fn byte(input: &[u8], at: usize) -> u8
     ensures { result ≡ byte_at input.now at }
 {
-    if at < input.len() { input[at] } else { 0 }
-}
-
-fn index(x: u8) -> usize
-    ensures { (result ≡ x) × (result ≤ 255) }
-{
-    x as usize
-}
-
-fn wide(x: u8) -> u16
-    ensures { (result ≡ x) × (result ≤ 255) }
-{
-    x as u16
-}
-
-fn pair(low: u8, high: u8) -> u16
-    ensures { result ≡ pair_of low high }
-{
-    wide(low) + 256 * wide(high)
+    input.get(at).copied().unwrap_or(0)
 }
 
 pub fn row_count(input: &[u8]) -> usize
     ensures { (result ≡ row_count input.now) × (result ≤ 255) }
 {
-    index(byte(input, 6))
+    usize::from(byte(input, 6))
 }
 
 // Where the events start.
@@ -62,11 +44,11 @@ pub fn limits_of(input: &[u8]) -> Limits
     ensures { result ≡ limits_of input.now }
 {
     Limits {
-        window: index(byte(input, 0)),
-        datalife: wide(byte(input, 1)),
-        replylife: wide(byte(input, 2)),
-        replywait: wide(byte(input, 3)),
-        resendwait: pair(byte(input, 4), byte(input, 5)),
+        window: usize::from(byte(input, 0)),
+        datalife: u16::from(byte(input, 1)),
+        replylife: u16::from(byte(input, 2)),
+        replywait: u16::from(byte(input, 3)),
+        resendwait: u16::from_le_bytes([byte(input, 4), byte(input, 5)]),
     }
 }
 
@@ -74,18 +56,12 @@ fn cell(input: &[u8], i: usize) -> u16
     requires { i < 4080 }
     ensures { result ≡ cell_at input.now i }
 {
-    pair(byte(input, 7 + 2 * i), byte(input, 8 + 2 * i))
+    u16::from_le_bytes([byte(input, 7 + 2 * i), byte(input, 8 + 2 * i)])
 }
 
 // The cells of 255 rows, as many as a row count can ask for.
 pub fn supply_of(input: &[u8]) -> [u16; 4080]
     ensures { result ≡ tab 4080 (cell_at input.now) }
 {
-    let mut cells = [0u16; 4080];
-    let mut i = 0;
-    while i < 4080 {
-        cells[i] = cell(input, i);
-        i += 1;
-    }
-    cells
+    array::from_fn(|i| cell(input, i))
 }

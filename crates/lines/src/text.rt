@@ -1,4 +1,5 @@
 // Inner: called by report. Each function writes at a place of a buffer that has room, and gives the place behind.
+// Stays (fixed memory): the text goes into a lent buffer, and `write!` into one gives an error that no contract rules out.
 ghost use Rattle.std.specs.Prelude.{◌+◌, ◌*◌, ◌≤◌, ◌<◌, ◌++◌, length};
 ghost use Rattle.lines.specs.Text.{
   decimal,
@@ -14,18 +15,15 @@ pub fn number(buffer: &mut [u8], at: usize, n: u8) -> usize
     requires { at + 3 ≤ length buffer.old }
     ensures { Wrote at (decimal n) buffer.old buffer.new result }
 {
+    let hundreds = b'0' + n / 100;
+    let tens = b'0' + n / 10 % 10;
+    let ones = b'0' + n % 10;
     if n < 10 {
-        buffer[at] = 48 + n;
-        at + 1
+        buffers::word(buffer, at, &[ones])
     } else if n < 100 {
-        buffer[at] = 48 + n / 10;
-        buffer[at + 1] = 48 + n % 10;
-        at + 2
+        buffers::word(buffer, at, &[tens, ones])
     } else {
-        buffer[at] = 48 + n / 100;
-        buffer[at + 1] = 48 + n / 10 % 10;
-        buffer[at + 2] = 48 + n % 10;
-        at + 3
+        buffers::word(buffer, at, &[hundreds, tens, ones])
     }
 }
 
@@ -52,15 +50,9 @@ pub fn event_lines(buffer: &mut [u8], at: usize, events: &[u8], answers: &[u8]) 
     requires { (length events.now ≤ 2 * length answers.now) × (at + 6 * length events.now ≤ length buffer.old) }
     ensures { Wrote at (event_lines events.now answers.now) buffer.old buffer.new result }
 {
-    let count = events.len() / 2;
     let mut next = at;
-    let mut i = 0;
-    while i < count {
-        let kind = events[2 * i];
-        let argument = events[2 * i + 1];
-        let answer = answers[i];
-        next = event_line(buffer, next, kind, argument, answer);
-        i += 1;
+    for (event, answer) in events.chunks_exact(2).zip(answers) {
+        next = event_line(buffer, next, event[0], event[1], *answer);
     }
     next
 }

@@ -17,9 +17,8 @@ fn rows_on(rows: usize, p: usize) -> usize
     requires { rows ≤ 100000 }
     ensures { result ≡ rows_on rows p }
 {
-    if p < (rows + 59) / 60 {
-        let left = rows - 60 * p;
-        if left <= 60 { left } else { 60 }
+    if p < rows.div_ceil(60) {
+        (rows - 60 * p).min(60)
     } else {
         0
     }
@@ -62,11 +61,9 @@ fn lines(out: &mut [u8], record: &[u16], first: usize, n: usize)
     requires { (23 * n ≤ length out.old) × (16 * (first + n) ≤ length «record».now) }
     ensures { out.new ≡ wrote 0 (lines_from «record».now first n) out.old }
 {
-    let mut i = 0;
-    while i < n {
+    for i in 0..n {
         let row = first + i;
         line::line(out, 23 * i, row, record, 16 * row);
-        i += 1;
     }
 }
 

@@ -7,13 +7,13 @@ ghost use Rattle.page.specs.Page.{shade, printed, column, number_text, line_text
 fn shade(cell: u16) -> u8
     ensures { (result ≡ shade cell) × (result ≤ 159) }
 {
-    (cell as u32 * 10 / 4096) as u8
+    (u32::from(cell) * 10 / 4096) as u8
 }
 
 fn printed(cell: u16) -> u8
     ensures { result ≡ printed cell }
 {
-    48 + shade(cell)
+    b'0' + shade(cell)
 }
 
 fn column(n: usize, unit: usize) -> u8
@@ -21,9 +21,9 @@ fn column(n: usize, unit: usize) -> u8
     ensures { result ≡ column n unit }
 {
     if n < unit {
-        32
+        b' '
     } else {
-        48 + (n / unit % 10) as u8
+        b'0' + (n / unit % 10) as u8
     }
 }
 
@@ -32,12 +32,15 @@ fn number(out: &mut [u8], at: usize, n: usize)
     requires { at + 6 ≤ length out.old }
     ensures { out.new ≡ wrote at (number_text n ++ space) out.old }
 {
-    out[at] = column(n, 10000);
-    out[at + 1] = column(n, 1000);
-    out[at + 2] = column(n, 100);
-    out[at + 3] = column(n, 10);
-    out[at + 4] = 48 + (n % 10) as u8;
-    out[at + 5] = 32;
+    let text = [
+        column(n, 10000),
+        column(n, 1000),
+        column(n, 100),
+        column(n, 10),
+        b'0' + (n % 10) as u8,
+        b' ',
+    ];
+    out[at..at + 6].copy_from_slice(&text);
 }
 
 // The 16 cells from `from` on.
@@ -45,10 +48,8 @@ fn print_row(out: &mut [u8], at: usize, cells: &[u16], from: usize)
     requires { (at + 16 ≤ length out.old) × (from + 16 ≤ length cells.now) }
     ensures { out.new ≡ wrote at (map printed (take 16 (drop from cells.now))) out.old }
 {
-    let mut i = 0;
-    while i < 16 {
-        out[at + i] = printed(cells[from + i]);
-        i += 1;
+    for (i, cell) in cells[from..from + 16].iter().enumerate() {
+        out[at + i] = printed(*cell);
     }
 }
 
@@ -59,5 +60,5 @@ pub fn line(out: &mut [u8], at: usize, n: usize, cells: &[u16], from: usize)
 {
     number(out, at, n);
     print_row(out, at + 6, cells, from);
-    out[at + 22] = 10;
+    out[at + 22] = b'\n';
 }

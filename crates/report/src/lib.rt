@@ -6,30 +6,11 @@ ghost use Rattle.limits.specs.Answer.{number_of};
 ghost use Rattle.lines.specs.Input.{readable};
 ghost use Rattle.buffers.specs.Buffers.{Wrote};
 ghost use Rattle.lines.specs.Text.{event_lines, counts_line, refused_line};
-ghost use Rattle.report.specs.Report.{output_length, no_answers, text_of, Room, Reports};
+ghost use Rattle.report.specs.Report.{output_length, text_of, Room, Reports};
 
 use buffers::Written;
 use events::Counts;
 use limits::answer::Refusal;
-
-fn small(n: usize) -> u8
-    requires { n ≤ 255 }
-    ensures { result ≡ n }
-{
-    n as u8
-}
-
-fn no_cells() -> [u16; 4080]
-    ensures { length result ≡ 4080 }
-{
-    [0; 4080]
-}
-
-fn no_answers() -> [u8; 20480]
-    ensures { result ≡ no_answers }
-{
-    [0; 20480]
-}
 
 fn refused(output: &mut [u8], answer: Result<(), Refusal>) -> usize
     requires { 12 ≤ length output.old }
@@ -45,9 +26,9 @@ fn lines_of(output: &mut [u8], events: &[u8], answers: &[u8], counts: Counts) ->
         ++ counts_line counts.sent counts.acknowledged counts.recorded) output.old output.new result }
 {
     let next = lines::text::event_lines(output, 0, events, answers);
-    let sent = small(counts.sent);
-    let acknowledged = small(counts.acknowledged);
-    let recorded = small(counts.recorded);
+    let sent = counts.sent as u8;
+    let acknowledged = counts.acknowledged as u8;
+    let recorded = counts.recorded as u8;
     lines::text::counts_line(output, next, sent, acknowledged, recorded)
 }
 
@@ -60,8 +41,8 @@ fn ridden(input: &[u8], output: &mut [u8]) -> usize
     let start = lines::input::event_start(input);
     let cells = 16 * lines::input::row_count(input);
     let supply = lines::input::supply_of(input);
-    let mut record = no_cells();
-    let mut answers = no_answers();
+    let mut record = [0; 4080];
+    let mut answers = [0; 20480];
     let outcome = ride::ride(
         asked,
         &input[start..],

@@ -58,12 +58,9 @@ module _ (bytes h cells : List ℕ) (x : FrameRead) (p : ReadCall (read_question
       pub data-small : (x.dataframe.window < 65536) × (x.dataframe.number < 65536)
       data-small = let f = data-fits x.dataframe asked-data in (omega arith, omega arith)
 
-      pub read-data : (w n : ℕ) → w ≡ x.dataframe.window → n ≡ x.dataframe.number
-          → ReadFrame bytes h cells (1 ∷ x.dataframe.life ∷ w ∷ n ∷ 0 ∷ []) x.dataframe.row 0
+      pub read-data : ReadFrame bytes h cells (1 ∷ x.dataframe.life ∷ x.dataframe.window ∷ x.dataframe.number ∷ 0 ∷ []) x.dataframe.row 0
       unfolding head_of
-      read-data w n ew en =
-          read_done (1 ∷ x.dataframe.life ∷ w ∷ n ∷ 0 ∷ [])
-          (ap₂ (λ a b. 1 ∷ x.dataframe.life ∷ a ∷ b ∷ 0 ∷ []) ew en ∙ sym (pick_yes _ _ _ _ (eq-eqb x.kind 1 k) refl))
+      read-data = read_done _ (sym (pick_yes _ _ _ _ (eq-eqb x.kind 1 k) refl))
 
     module _ (k : x.kind ≡ 1 → ⊥) where
       asked-reply : first_no (reply_questions x.replyframe) ≡ 0
@@ -76,12 +73,9 @@ module _ (bytes h cells : List ℕ) (x : FrameRead) (p : ReadCall (read_question
       pub reply-small : (x.replyframe.window < 65536) × (x.replyframe.first < 65536) × (x.replyframe.last < 65536)
       reply-small = let f = reply-fits x.replyframe asked-reply in (omega arith, omega arith, omega arith)
 
-      pub read-reply : (w a b : ℕ) → w ≡ x.replyframe.window → a ≡ x.replyframe.first → b ≡ x.replyframe.last
-          → ReadFrame bytes h cells (2 ∷ x.replyframe.life ∷ w ∷ a ∷ b ∷ []) x.dataframe.row 0
+      pub read-reply : ReadFrame bytes h cells (2 ∷ x.replyframe.life ∷ x.replyframe.window ∷ x.replyframe.first ∷ x.replyframe.last ∷ []) x.dataframe.row 0
       unfolding head_of
-      read-reply w a b ew ea eb =
-          read_done (2 ∷ x.replyframe.life ∷ w ∷ a ∷ b ∷ [])
-          ((λ i. 2 ∷ x.replyframe.life ∷ ew i ∷ ea i ∷ eb i ∷ []) ∙ sym (pick_no _ _ _ _ (ne_eqb x.kind 1 k) refl))
+      read-reply = read_done _ (sym (pick_no _ _ _ _ (ne_eqb x.kind 1 k) refl))
 
 module _ (h cells before : List ℕ) where
   module _ (after : List ℕ) (w : Written) (r : ℕ) (s : r ≡ number_of w.answer) where

@@ -1,19 +1,19 @@
 -- Laws on what calls for C promise: an opening, and what a call in place leaves.
-use Prim.Native.Nat.{ℕ, ◌≤◌, ◌<◌}
+use Prim.Native.Nat.{ℕ, ◌<◌}
 use mathlib.Core.Path.{◌≡◌, refl, sym, ◌∙◌, ap}
-use mathlib.Core.Bool.{Bool, true, false, ◌&&◌}
+use mathlib.Core.Bool.{Bool, true, false}
 use mathlib.Core.List.{List, ◌∷◌, map}
 use native.Mathlib.Omega.{arith}
 use lib.Dec.{eqb, leb}
 use lib.ListN.{replicate}
-use borrow.Author.Tests.{eqb-true, eqb-false, le-leb, leb-true}
+use borrow.Author.Tests.{eqb-true, eqb-false, leb-true}
 use Rattle.limits.specs.declared.Limits.{Limits}
 use Rattle.std.specs.Prelude.{Result, Ok, Err}
 use Rattle.limits.specs.declared.answer.Refusal.{Refusal}
 use Rattle.limits.specs.Answer.{number_of}
 use Rattle.limits.specs.Limits.{limits_questions, accepted, zero_limits}
 use Rattle.limits.specs.Questions.{pick, Question, ask, first_no, Answers, Answered, Called}
-use Rattle.limits.proofs.Laws.Choice.{both, test, pick_yes, pick_no, pick_under, pick-cases}
+use Rattle.limits.proofs.Laws.Choice.{test, pick_yes, pick_no, pick_under, pick-cases}
 use Rattle.limits.proofs.Laws.Good.{good}
 use Rattle.limits.proofs.Laws.Promise.{unsound-first}
 use Rattle.air.proofs.Laws.Typed.{data-count, reply-count}
@@ -27,15 +27,7 @@ use Rattle.events.proofs.Laws.Parts.{parts, mat-numbers, pad-number}
 use Rattle.link.specs.View.{fresh_link}
 use Rattle.clinks.specs.Links.{CLink, clink, is_on, bit, limits_at, numbers_at, head_of, link_at}
 use Rattle.clinks.proofs.Laws.Links.{stored_back}
-use Rattle.exports.specs.Calls.{capped, asked, limits_or_zeros, kind_of, counts_list, OpenCall, Leaves}
-
-pub byte-kind : (kind argument : ℕ) → kind ≤ 255 → argument ≤ 255 → kind ≡ kind_of kind argument
-unfolding kind_of
-byte-kind kind argument h k = sym (pick_yes _ _ _ _ (both _ _ (le-leb kind 255 h) (le-leb argument 255 k)) refl)
-
-pub no_kind : (kind argument : ℕ) → (leb kind 255 && leb argument 255) ≡ false → 0 ≡ kind_of kind argument
-unfolding kind_of
-no_kind kind argument e = sym (pick_no _ _ _ _ e refl)
+use Rattle.exports.specs.Calls.{capped, asked, limits_or_zeros, counts_list, OpenCall, Leaves}
 
 -- what a call leaves is the link that it gave
 pub left-link : (p : Progress) (before after : CLink) (counts : List ℕ) (r : ℕ) → Leaves p before after counts r → link_at after ≡ p.link

@@ -1,9 +1,5 @@
-use lib.ListN.{length}
-use Prim.Native.Nat.{◌-◌, ◌≤◌}
+use Rattle.std.proofs.Common.{length}
 use Rattle.framecheck.proofs.all.Given as goal
 
-abbrev pub invariant-loop-at : goal.invariant-loop-at
-invariant-loop-at g l = l.at ≤ length l.input
-
-abbrev pub decreases-loop-at : goal.decreases-loop-at
-decreases-loop-at g l = length l.input - l.at
+abbrev pub decreases-loop-size : goal.decreases-loop-size
+decreases-loop-size g l = length l.rest

@@ -5,10 +5,6 @@ use mathlib.Core.List.{List, [], ◌∷◌, ◌++◌}
 use native.Mathlib.Omega.{arith}
 use lib.ListN.{length, get_or, set, take, drop}
 use lib.Seq.{paste, paste-suc, take_all}
-use Rattle.limits.specs.Lists.{tab}
-use Rattle.limits.proofs.Laws.Lists.{is-tab}
-use Rattle.rows.specs.Arrays.{changed, from_to}
-use Rattle.rows.proofs.Laws.Changed.{length-changed, changed-at, inside}
 use Rattle.frames.specs.Layout.{cell_bytes}
 
 pub length-cells : (row : List ℕ) → length (cell_bytes row) ≡ 2 * length row
@@ -48,10 +44,3 @@ cells-put b row ys i l q e =
     e
     ∙ ap (paste b 4 (cell_bytes row)) {x = 2 * i} {y = 32} (omega arith)
     ∙ ap (λ xs. take 4 b ++ xs ++ drop 36 b) (take_all 32 (cell_bytes row) (let n = length-cells row in omega arith))
-
--- the loop that reads cells has read them
-pub cells-read : (f : ℕ → ℕ) (row row₀ : List ℕ) (i : ℕ) → length row₀ ≡ 16 → i ≡ 16 → row ≡ changed 0 (from_to 0 i) f row₀ → row ≡ tab 16 f
-cells-read f row row₀ i l q e =
-    e
-    ∙ is-tab (changed 0 (from_to 0 i) f row₀) 16 f 0 (length-changed 0 (from_to 0 i) f row₀ ∙ l)
-    (λ k h. changed-at 0 (from_to 0 i) f row₀ k (omega arith) (inside 0 i k (omega arith) (omega arith)))

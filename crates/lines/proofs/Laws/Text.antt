@@ -1,36 +1,32 @@
 -- Laws on the lines of text.
-use Prim.Native.Nat.{ℕ, suc, ◌+◌, ◌/◌, ◌%◌, ◌≤◌, ◌<◌}
-use mathlib.Core.Path.{refl, ap, ap₂}
+use Prim.Native.Nat.{ℕ, ◌+◌, ◌/◌, ◌%◌, ◌≤◌, ◌<◌}
+use mathlib.Core.Path.{◌≡◌, refl, sym}
 use mathlib.Core.List.{List, [], ◌∷◌, ◌++◌, append_assoc}
 use native.Mathlib.Omega.{arith}
 use lib.Dec.{ltb}
-use lib.ListN.{length, set, length-append}
+use lib.ListN.{length, length-append}
 use borrow.Author.Tests.{lt-ltb, le-ltb}
 use Rattle.limits.proofs.Laws.Choice.{pick_yes, pick_no, pick-cases}
 use Rattle.buffers.specs.Ascii.{digit, space, newline}
 use Rattle.buffers.specs.Buffers.{Wrote}
-use Rattle.buffers.proofs.Laws.Buffers.{stored, both-wrote, same-wrote}
+use Rattle.buffers.proofs.Laws.Buffers.{both-wrote, same-wrote}
 use Rattle.lines.specs.Text.{decimal, sent_word, acknowledged_word, recorded_word, refused_word, event_line, counts_line, refused_line}
 
-pub one-digit : (xs : List ℕ) (at n : ℕ) → at + 3 ≤ length xs → n < 10 → Wrote at (decimal n) xs (set xs at (48 + n)) (at + 1)
+pub one-digit : (n : ℕ) → n < 10 → digit (n % 10) ∷ [] ≡ decimal n
 unfolding decimal
-one-digit xs at n h k = stored xs at (digit n ∷ []) _ _ _ (omega arith) refl (pick_yes _ _ _ _ (lt-ltb n 10 k) refl) refl
+one-digit n h =
+    let ones : n % 10 ≡ n = omega arith in
+    rw ones (sym (pick_yes _ _ _ _ (lt-ltb n 10 h) refl))
 
-pub two_digits : (xs : List ℕ) (at n : ℕ) → at + 3 ≤ length xs → 10 ≤ n → n < 100
-    → Wrote at (decimal n) xs (set (set xs at (48 + n / 10)) (at + 1) (48 + n % 10)) (at + 2)
+pub two_digits : (n : ℕ) → 10 ≤ n → n < 100 → digit (n / 10 % 10) ∷ digit (n % 10) ∷ [] ≡ decimal n
 unfolding decimal
-two_digits xs at n h j k =
-    stored xs at (digit (n / 10) ∷ digit (n % 10) ∷ []) _ _ _ (omega arith)
-    (ap (λ p. set (set xs at (48 + n / 10)) p (48 + n % 10)) {x = at + 1} {y = suc at} (omega arith))
-    (pick_no _ _ _ _ (le-ltb n 10 j) (pick_yes _ _ _ _ (lt-ltb n 100 k) refl)) refl
+two_digits n h k =
+    let tens : n / 10 % 10 ≡ n / 10 = omega arith in
+    rw tens (sym (pick_no _ _ _ _ (le-ltb n 10 h) (pick_yes _ _ _ _ (lt-ltb n 100 k) refl)))
 
-pub three-digits : (xs : List ℕ) (at n : ℕ) → at + 3 ≤ length xs → 100 ≤ n
-    → Wrote at (decimal n) xs (set (set (set xs at (48 + n / 100)) (at + 1) (48 + n / 10 % 10)) (at + 2) (48 + n % 10)) (at + 3)
+pub three-digits : (n : ℕ) → 100 ≤ n → digit (n / 100) ∷ digit (n / 10 % 10) ∷ digit (n % 10) ∷ [] ≡ decimal n
 unfolding decimal
-three-digits xs at n h k =
-    stored xs at (digit (n / 100) ∷ digit (n / 10 % 10) ∷ digit (n % 10) ∷ []) _ _ _ (omega arith)
-    (ap₂ (λ p q. set (set (set xs at (48 + n / 100)) p (48 + n / 10 % 10)) q (48 + n % 10)) {x = at + 1} {y = suc at} (omega arith) (omega arith))
-    (pick_no _ _ _ _ (le-ltb n 10 (omega arith)) (pick_no _ _ _ _ (le-ltb n 100 k) refl)) refl
+three-digits n h = sym (pick_no _ _ _ _ (le-ltb n 10 (omega arith)) (pick_no _ _ _ _ (le-ltb n 100 h) refl))
 
 pub decimal-most : (n : ℕ) → length (decimal n) ≤ 3
 unfolding decimal

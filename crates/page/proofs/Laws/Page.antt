@@ -1,5 +1,5 @@
 -- Laws on the lines of a page, and on its questions.
-use Prim.Native.Nat.{ℕ, zero, suc, ◌+◌, ◌-◌, ◌*◌, ◌/◌, ◌%◌, ◌≤◌, ◌<◌}
+use Prim.Native.Nat.{ℕ, zero, suc, ◌+◌, ◌-◌, ◌*◌, ◌/◌, ◌%◌, ◌≤◌, ◌<◌, min}
 use mathlib.Core.Path.{◌≡◌, refl, sym, ◌∙◌, ap, ap₂}
 use mathlib.Core.Bool.{Bool, true, false}
 use mathlib.Core.List.{List, [], ◌∷◌, ◌++◌, append_assoc, append-nil, map}
@@ -26,6 +26,12 @@ on-last rows p h = sym (pick_yes _ _ _ _ (le-leb _ 60 h) refl)
 pub on-full : (rows p : ℕ) → 60 < rows - 60 * p → 60 ≡ rows_on rows p
 unfolding rows_on
 on-full rows p h = sym (pick_no _ _ _ _ (lt-leb _ 60 h) refl)
+
+pub on-least : (rows p : ℕ) → min (rows - 60 * p) 60 ≡ rows_on rows p
+on-least rows p =
+    split (rows - 60 * p) 60
+    (λ k. let least : min (rows - 60 * p) 60 ≡ rows - 60 * p = omega arith in least ∙ on-last rows p k)
+    (λ k. let least : min (rows - 60 * p) 60 ≡ 60 = omega arith in least ∙ on-full rows p k)
 
 pub on_fits : (rows p n : ℕ) → n ≡ rows_on rows p → 1 ≤ n → 60 * p + n ≤ rows
 on_fits rows p n e h =

@@ -5,8 +5,7 @@ use mathlib.Core.List.{List, [], ◌∷◌, ◌++◌}
 use native.Mathlib.Omega.{arith}
 use lib.ListN.{length, length-append}
 use Rattle.buffers.specs.Buffers.{Wrote}
-use Rattle.buffers.proofs.Laws.Buffers.{both-wrote, same-wrote}
-use Rattle.lines.specs.Text.{event_line, event_lines, counts_line}
+use Rattle.lines.specs.Text.{event_line, event_lines}
 use Rattle.lines.proofs.Laws.Lines.{line-most}
 
 -- answers behind those of the events are not read
@@ -31,10 +30,3 @@ lines-most (kind ∷ argument ∷ events) (answer ∷ answers) =
 -- behind the lines of the events there is room for that of the counts
 pub lines-room : (events answers xs ys : List ℕ) (p : ℕ) → Wrote 0 (event_lines events answers) xs ys p → p ≤ 6 * length events
 lines-room events answers xs ys p w = let m = lines-most events answers in omega arith
-
-pub lines-wrote : (events answers : List ℕ) (sent acknowledged recorded a b c p q : ℕ) (xs ys zs : List ℕ)
-    → Wrote 0 (event_lines events answers) xs ys p → Wrote p (counts_line a b c) ys zs q → a ≡ sent → b ≡ acknowledged → c ≡ recorded
-    → Wrote 0 (event_lines events answers ++ counts_line sent acknowledged recorded) xs zs q
-lines-wrote events answers sent acknowledged recorded a b c p q xs ys zs u v d e f =
-    both-wrote 0 (event_lines events answers) (counts_line sent acknowledged recorded) xs ys zs p q u
-    (same-wrote p (counts_line a b c) (counts_line sent acknowledged recorded) ys zs q (λ i. counts_line (d i) (e i) (f i)) v)

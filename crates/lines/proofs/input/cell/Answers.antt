@@ -1,7 +1,7 @@
-use Rattle.lines.specs.Input.{pair_of, cell_at}
-use mathlib.Core.Path.{◌∙◌, ap₂}
+use Rattle.std.proofs.Common.{rules}
+use Rattle.lines.specs.Input.{cell_at}
 use Rattle.lines.proofs.input.cell.Goals as goal
 
 pub returns : goal.returns
 unfolding cell_at
-returns c = c.pair.ensures ∙ ap₂ pair_of c.byte.ensures c.byte-2.ensures
+returns c = search rules

@@ -1,12 +1,8 @@
 use native.Mathlib.Omega.{arith}
-use mathlib.Core.Path.{◌∙◌}
-use lib.ListN.{take, drop, length-set}
+use lib.ListN.{take, drop}
 use Rattle.rows.proofs.Laws.Cells.{length_part}
 use Rattle.page.proofs.Laws.Line.{line_wrote}
 use Rattle.page.proofs.line.line.Goals as goal
-
-pub shape_of-out : goal.shape_of-out
-shape_of-out c = simp length-set (c.print_row.auto.out ∙ c.number.auto.out)
 
 pub returns : goal.returns
 returns c =
