@@ -27,8 +27,7 @@ returns-then-not-legal_row c = λ marks timers cells. let m = mat_of c.args.olde
     record {
       number =
           sym (pick_yes _ _ _ _ (room-yes _ m _ c.gap.ensures c.if-w-gap.false)
-          (pick_yes _ _ _ _ (le-leb _ _ c.if-supply-lt16.false)
-          (pick_no _ _ _ _ (ap legal_row (sym c.read-row.ensures) ∙ sym c.legal_row.ensures ∙ c.if-not-legal_row.true) refl)));
+          (pick_yes _ _ _ _ (le-leb _ _ c.if-supply-lt16.false) (pick_no _ _ _ _ (ap legal_row (sym c.read-row.ensures) ∙ sym c.legal_row.ensures ∙ c.if-not-legal_row.true) refl)));
       value = tt;
     }
 
@@ -37,7 +36,6 @@ returns c = λ marks timers cells. let m = mat_of c.args.oldest c.args.next mark
     record {
       number =
           sym (pick_yes _ _ _ _ (room-yes _ m _ c.gap.ensures c.if-w-gap.false)
-          (pick_yes _ _ _ _ (le-leb _ _ c.if-supply-lt16.false)
-          (pick_yes _ _ _ _ (ap legal_row (sym c.read-row.ensures) ∙ sym c.legal_row.ensures ∙ c.if-not-legal_row.false) refl)));
+          (pick_yes _ _ _ _ (le-leb _ _ c.if-supply-lt16.false) (pick_yes _ _ _ _ (ap legal_row (sym c.read-row.ensures) ∙ sym c.legal_row.ensures ∙ c.if-not-legal_row.false) refl)));
       value = c.read-row.ensures;
     }
