@@ -10,6 +10,7 @@ ghost use Rattle.air.specs.Kinds.{width_of, full_of, sound_carrying, sound_head,
 
 use limits::Limits;
 use limits::answer::Refusal;
+use limits::messages::Reply;
 
 #[derive(Clone, Copy)]
 pub enum Kind {
@@ -63,7 +64,7 @@ fn reply_sound(l: Limits, words: &[u16], at: usize) -> bool
 {
     let first = wide(words[at + 1]);
     let last = wide(words[at + 2]);
-    limits::within(1, l.replylife, words[at]) && rows::messages::reply_sound(l, first, last)
+    limits::within(1, l.replylife, words[at]) && rows::messages::reply_sound(l, Reply { first, last })
 }
 
 // Question 4 of the message whose words stand from `at` on, but for its cells.

@@ -1,12 +1,13 @@
 // The mat's calls.
 use limits::Limits;
+use limits::messages::Reply;
 use mat::Mat;
 use std::io;
 use tries::line;
 
 // A mat with the rows from `oldest` up to `next` outstanding. Every timer is 4 and every cell 5.
 fn mat_of(oldest: usize, next: usize) -> Mat {
-    let mut m = mat::fresh();
+    let mut m = Mat::fresh();
     m.oldest = oldest;
     m.next = next;
     m.timers = [4; 32];
@@ -22,14 +23,13 @@ fn send(
     next: usize,
     supply: &[u16],
 ) -> io::Result<()> {
-    let r = mat::send(l, mat_of(oldest, next), supply);
-    let answer = r.answer;
+    let answer = mat_of(oldest, next).send(l, supply);
     line(rt, what, answer)
 }
 
 fn resend(rt: &impl Print, what: &[u8], l: Limits, m: Mat, k: usize) -> io::Result<()> {
-    let r = mat::resend(l, m, k);
-    let answer = r.answer;
+    let mut m = m;
+    let answer = m.resend(l, k);
     line(rt, what, answer)
 }
 
@@ -41,19 +41,18 @@ fn acknowledge(
     first: usize,
     last: usize,
 ) -> io::Result<()> {
-    let r = mat::acknowledge(l, mat_of(0, next), first, last);
-    let answer = r.answer;
+    let answer = mat_of(0, next).acknowledge(l, Reply { first, last });
     line(rt, what, answer)
 }
 
 fn tick(rt: &impl Print, what: &[u8], l: Limits, m: Mat, d: u16) -> io::Result<()> {
-    let r = mat::tick(l, m, d);
-    let answer = r.answer;
+    let mut m = m;
+    let answer = m.tick(l, d);
     line(rt, what, answer)
 }
 
 fn unsound_limits(rt: &impl Print) -> io::Result<()> {
-    let m = mat::fresh();
+    let m = Mat::fresh();
     let row = [5u16; 16];
     send(rt, b"mat send, w 0", tries::of(0, 1, 4), 0, 0, &row)?;
     send(rt, b"mat send, w 33", tries::of(33, 1, 4), 0, 0, &row)?;
@@ -83,10 +82,10 @@ fn unsound_mats(rt: &impl Print) -> io::Result<()> {
         &row,
     )?;
     send(rt, b"mat send, 3 outstanding of 2", l, 0, 3, &row)?;
-    let mut m = mat::fresh();
+    let mut m = Mat::fresh();
     m.marks[0] = true;
     tick(rt, b"mat tick, mark on a row not outstanding", l, m, 1)?;
-    m = mat::fresh();
+    m = Mat::fresh();
     m.timers[1] = 5;
     tick(rt, b"mat tick, timer above its wait", l, m, 1)?;
     m = mat_of(0, 2);
@@ -100,7 +99,7 @@ fn refused(rt: &impl Print) -> io::Result<()> {
     let l = tries::of(2, 1, 4);
     let row = [5u16; 16];
     let long = [4096u16; 20];
-    let none = mat::fresh();
+    let none = Mat::fresh();
     let two = mat_of(0, 2);
     send(rt, b"mat send, window full", l, 0, 2, &row)?;
     send(rt, b"mat send, empty supply", l, 0, 0, &row[0..0])?;
@@ -120,10 +119,9 @@ fn refused(rt: &impl Print) -> io::Result<()> {
 // A later row is acknowledged alone: it may not be sent again.
 fn acknowledged(rt: &impl Print) -> io::Result<()> {
     let l = tries::of(2, 1, 4);
-    let r = mat::acknowledge(l, mat_of(0, 2), 1, 1);
-    let answer = r.answer;
+    let mut m = mat_of(0, 2);
+    let answer = m.acknowledge(l, Reply { first: 1, last: 1 });
     line(rt, b"mat reply, later row alone", answer)?;
-    let m = r.mat;
     resend(rt, b"mat resend, acknowledged row", l, m, 1)
 }
 

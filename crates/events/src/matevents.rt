@@ -13,7 +13,9 @@ use crate::moves::{Numbers, Step};
 use air::{changes, lent};
 use limits::Limits;
 use limits::answer::Refusal;
+use limits::messages::Reply;
 use mat::soundmat;
+use mat::soundmat::Passed;
 
 // The next row is sent: 10, 11, 12, 13.
 pub fn send(
@@ -37,18 +39,16 @@ pub fn send(
         datas.new replies)
         supply.now b b send result }
 {
-    let found = soundmat::next_row(l, n.oldest, n.next, supply);
-    let answer = found.answer;
-    let Ok(()) = answer else {
-        return moves::stays(n, answer);
+    let row = match soundmat::next_row(l, n.oldest, n.next, supply) {
+        Ok(row) => row,
+        Err(refusal) => return moves::stays(n, Err(refusal)),
     };
     if lent::room(n.datas) {
-        let row = found.row;
         let number = n.next;
         let next = soundmat::keep(l, number, mattimers, matcells, row);
         let count = changes::put_data(l, n.datas, datas, number, row);
         Step {
-            answer,
+            answer: Ok(()),
             numbers: moves::with_next(moves::with_datas(n, count), next),
             counts: moves::one_sent(),
         }
@@ -79,16 +79,14 @@ pub fn resend(
         datas.new replies)
         supply b b (resend k) result }
 {
-    let found = soundmat::due(l, n.oldest, n.next, marks, mattimers, k);
-    let answer = found.answer;
-    let Ok(()) = answer else {
-        return moves::stays(n, answer);
+    let number = match soundmat::due(l, n.oldest, n.next, marks, mattimers, k) {
+        Ok(number) => number,
+        Err(refusal) => return moves::stays(n, Err(refusal)),
     };
     if lent::room(n.datas) {
-        let number = found.number;
         let row = soundmat::again(l, number, mattimers, matcells);
         let count = changes::put_data(l, n.datas, datas, number, row);
-        moves::stays(moves::with_datas(n, count), answer)
+        moves::stays(moves::with_datas(n, count), Ok(()))
     } else {
         moves::stays(n, Err(Refusal::DataTableFull))
     }
@@ -120,15 +118,18 @@ pub fn arrive_reply(
     let Ok(()) = answer else {
         return moves::stays(n, answer);
     };
-    let a = soundmat::acknowledge(l, n.oldest, n.next, marks, found.first, found.last);
-    let answer = a.answer;
-    let Ok(()) = answer else {
-        return moves::stays(n, answer);
+    let reply = Reply {
+        first: found.first,
+        last: found.last,
+    };
+    let Passed { oldest, passed } = match soundmat::acknowledge(l, n.oldest, n.next, marks, reply) {
+        Ok(passed) => passed,
+        Err(refusal) => return moves::stays(n, Err(refusal)),
     };
     let count = changes::remove_reply(n.replies, replies, p);
     Step {
-        answer,
-        numbers: moves::with_oldest(moves::with_replies(n, count), a.oldest),
-        counts: moves::acknowledged_by(a.passed),
+        answer: Ok(()),
+        numbers: moves::with_oldest(moves::with_replies(n, count), oldest),
+        counts: moves::acknowledged_by(passed),
     }
 }

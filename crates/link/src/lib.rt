@@ -12,13 +12,14 @@ use events::moves::Numbers;
 use events::{Link, Progress};
 use limits::Limits;
 use limits::answer::Refusal;
+use mat::Mat;
 
 fn fresh(limits: Limits) -> Link
     ensures { result ≡ fresh_link limits }
 {
     Link {
         limits,
-        mat: mat::fresh(),
+        mat: Mat::fresh(),
         pad: pad::fresh(),
         datas: datatable::empty(),
         replies: replytable::empty(),
@@ -42,8 +43,8 @@ fn numbers_of(k: Link) -> Numbers
     let d = k.datas;
     let r = k.replies;
     Numbers {
-        oldest: mat::oldest_of(m),
-        next: mat::next_of(m),
+        oldest: m.oldest,
+        next: m.next,
         wanted: pad::wanted_of(p),
         datas: datatable::count_of(d),
         replies: replytable::count_of(r),
@@ -67,7 +68,13 @@ fn joined(
 {
     Link {
         limits: l,
-        mat: mat::assembled(n.oldest, n.next, marks, mattimers, matcells),
+        mat: Mat {
+            oldest: n.oldest,
+            next: n.next,
+            marks,
+            timers: mattimers,
+            cells: matcells,
+        },
         pad: pad::assembled(n.wanted, held, padtimers, padcells),
         datas: datatable::assembled(n.datas, datas),
         replies: replytable::assembled(n.replies, replies),
@@ -82,9 +89,9 @@ pub fn sound(k: Link) -> bool
     let n = numbers_of(k);
     let m = k.mat;
     let p = k.pad;
-    let marks = mat::marks_of(m);
-    let mattimers = mat::timers_of(m);
-    let matcells = mat::cells_of(m);
+    let marks = m.marks;
+    let mattimers = m.timers;
+    let matcells = m.cells;
     let held = pad::held_of(p);
     let padtimers = pad::timers_of(p);
     let padcells = pad::cells_of(p);
@@ -104,9 +111,9 @@ pub fn step(k: Link, kind: u8, argument: u8, supply: &[u16], record: &mut [u16])
     let n = numbers_of(k);
     let m = k.mat;
     let p = k.pad;
-    let mut marks = mat::marks_of(m);
-    let mut mattimers = mat::timers_of(m);
-    let mut matcells = mat::cells_of(m);
+    let mut marks = m.marks;
+    let mut mattimers = m.timers;
+    let mut matcells = m.cells;
     let mut held = pad::held_of(p);
     let mut padtimers = pad::timers_of(p);
     let mut padcells = pad::cells_of(p);
@@ -155,9 +162,9 @@ pub fn run(
     let n = numbers_of(k);
     let m = k.mat;
     let p = k.pad;
-    let mut marks = mat::marks_of(m);
-    let mut mattimers = mat::timers_of(m);
-    let mut matcells = mat::cells_of(m);
+    let mut marks = m.marks;
+    let mut mattimers = m.timers;
+    let mut matcells = m.cells;
     let mut held = pad::held_of(p);
     let mut padtimers = pad::timers_of(p);
     let mut padcells = pad::cells_of(p);

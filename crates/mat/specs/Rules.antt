@@ -1,5 +1,5 @@
 -- The mat's events: send, resend, a reply arrives, time passes.
-use Rattle.std.specs.Prelude.{ℕ, ◌+◌, ◌-◌, ◌*◌, false, not, ◌&&◌, ◌||◌, List, [], ◌∷◌, ◌++◌, map, eqb, leb, ltb, length, get_or, take, drop, set, replicate}
+use Rattle.std.specs.Prelude.{ℕ, ◌+◌, ◌-◌, ◌*◌, false, not, ◌&&◌, ◌||◌, List, [], ◌∷◌, ◌++◌, map, eqb, leb, ltb, length, get_or, take, drop, set}
 use Rattle.limits.specs.declared.Limits.{Limits}
 use Rattle.limits.specs.Lists.{tab, leading}
 use Rattle.limits.specs.Cells.{legal_row}
@@ -12,9 +12,6 @@ use Rattle.mat.specs.Window.{Kept, MatState, outstanding, row_of, timer_place}
 pub record Sending : Type 0 where
   pub state : MatState
   pub message : Data
-
-abbrev pub not_sending : MatState → Sending
-not_sending s = record { state = s; message = record { number = 0; row = replicate 16 0 } }
 
 -- `supply` is the cells that are left to send
 abbrev pub send_questions : Limits → MatState → List ℕ → List Question
@@ -60,9 +57,6 @@ resending l s k =
 pub record Acknowledging : Type 0 where
   pub state : MatState
   pub passed : ℕ
-
-abbrev pub not_acknowledging : MatState → Acknowledging
-not_acknowledging s = record { state = s; passed = 0 }
 
 -- how far the reply's first number lies on from oldest
 abbrev pub start_of : Limits → MatState → Reply → ℕ

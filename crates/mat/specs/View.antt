@@ -1,18 +1,18 @@
 -- How the mat's arrays show its window, question 4 of a mat, and what its calls promise.
 -- Free, and not shown: the cells of rows not outstanding, and what stands beyond w. Marks of rows not outstanding are off by
 -- question 4, and every call keeps that.
-use Rattle.std.specs.Prelude.{ℕ, ◌+◌, ◌-◌, ◌*◌, Bool, false, not, ◌&&◌, List, leb, ltb, get_or, replicate}
+use Rattle.std.specs.Prelude.{ℕ, ◌+◌, ◌-◌, ◌*◌, Bool, false, not, ◌&&◌, List, leb, ltb, get_or, replicate, Result, Ok, Err}
 use Rattle.limits.specs.declared.Limits.{Limits}
 use Rattle.limits.specs.Lists.{tab, all}
 use Rattle.limits.specs.Cells.{row_at, legal_row}
-use Rattle.limits.specs.Questions.{Question, Called}
+use Rattle.limits.specs.declared.answer.Refusal.{Refusal}
+use Rattle.limits.specs.Questions.{Question, Answer, Changed}
 use Rattle.limits.specs.Ring.{distance, place}
+use Rattle.limits.specs.Tables.{Data}
 use Rattle.mat.specs.declared.Mat.{Mat}
-use Rattle.mat.specs.declared.Sent.{Sent}
-use Rattle.mat.specs.declared.Acknowledged.{Acknowledged}
-use Rattle.mat.specs.declared.Ticked.{Ticked}
+use Rattle.mat.specs.declared.soundmat.Passed.{Passed}
 use Rattle.mat.specs.Window.{MatState}
-use Rattle.mat.specs.Rules.{Sending, not_sending, Acknowledging, not_acknowledging}
+use Rattle.mat.specs.Rules.{Sending, Acknowledging}
 
 -- the mat of its two numbers and its three arrays
 abbrev pub mat_of : ℕ → ℕ → List Bool → List ℕ → List ℕ → Mat
@@ -56,20 +56,24 @@ sound_mat l m =
     && (all (λ t. leb t l.resendwait) (tab l.window (λ i. get_or m.timers i 0))
     && all legal_row (tab (outstanding_of l.window m) (cells_at l.window m))))
 
-abbrev pub shown_sending : Limits → Sent → Sending
-shown_sending l r = record { state = mat_state l.window r.mat; message = record { number = r.number; row = r.row } }
+-- What the mat's calls promise: the answer, what an Ok holds, and the mat afterwards.
+abbrev pub SendCall : Limits → List Question → Result Data Refusal → Sending → Mat → Mat → Type 0
+SendCall l questions result done before after =
+    Changed questions result done.message (mat_state l.window after) done.state (sound_mat l) before after
 
-abbrev pub SendCall : Limits → Mat → List Question → Sending → Sent → Type 0
-SendCall l m questions done r =
-    Called questions r.answer (shown_sending l r) done (not_sending (mat_state l.window m)) (sound_mat l) m r.mat
+abbrev pub AcknowledgeCall : Limits → List Question → Result ℕ Refusal → Acknowledging → Mat → Mat → Type 0
+AcknowledgeCall l questions result done before after =
+    Changed questions result done.passed (mat_state l.window after) done.state (sound_mat l) before after
 
-abbrev pub shown_acknowledging : Limits → Acknowledged → Acknowledging
-shown_acknowledging l r = record { state = mat_state l.window r.mat; passed = r.passed }
+abbrev pub TickCall : Limits → List Question → Answer → MatState → Mat → Mat → Type 0
+TickCall l questions result done before after =
+    Changed questions result tt (mat_state l.window after) done (sound_mat l) before after
 
-abbrev pub AcknowledgeCall : Limits → Mat → List Question → Acknowledging → Acknowledged → Type 0
-AcknowledgeCall l m questions done r =
-    Called questions r.answer (shown_acknowledging l r) done (not_acknowledging (mat_state l.window m)) (sound_mat l) m r.mat
+-- the same of a reply that marks lent arrays: by how many rows oldest rose, and oldest, which a refusal leaves
+abbrev pub passed_rows : Result Passed Refusal → Result ℕ Refusal
+passed_rows (Ok p) = Ok p.passed
+passed_rows (Err refusal) = Err refusal
 
-abbrev pub TickCall : Limits → Mat → List Question → MatState → Ticked → Type 0
-TickCall l m questions done r =
-    Called questions r.answer (mat_state l.window r.mat) done (mat_state l.window m) (sound_mat l) m r.mat
+abbrev pub oldest_after : Result Passed Refusal → ℕ → ℕ
+oldest_after (Ok p) oldest = p.oldest
+oldest_after (Err refusal) oldest = oldest

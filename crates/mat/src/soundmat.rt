@@ -1,16 +1,17 @@
 // Inner: called by the mat's public calls, events and runs. The mat's events where question 4 has been put and passed. Each takes
 // the numbers and arrays that it needs; arrays are lent and change in place.
-ghost use Rattle.std.specs.Prelude.{◌≡◌, Bool, true, false, not, ◌&&◌, List, ℕ, ◌+◌, ◌*◌, ◌%◌, ◌<◌, ◌≤◌, leb, get_or, take, replicate};
+ghost use Rattle.std.specs.Prelude.{◌≡◌, Bool, true, false, not, ◌&&◌, List, ℕ, ◌+◌, ◌*◌, ◌%◌, ◌<◌, ◌≤◌, leb, get_or, take};
 ghost use Rattle.limits.specs.Lists.{tab, all, leading};
 ghost use Rattle.limits.specs.Cells.{row_at, legal_row};
-ghost use Rattle.limits.specs.Questions.{Answers};
+ghost use Rattle.limits.specs.Questions.{Answered};
 ghost use Rattle.limits.specs.Limits.{sound_limits};
 ghost use Rattle.limits.specs.Ring.{distance, step};
 ghost use Rattle.limits.specs.Tables.{sound_reply};
 ghost use Rattle.mat.specs.Rules.{send_questions, sending, resend_questions, resending, acknowledge_questions, passing, acknowledging, ticked};
-ghost use Rattle.mat.specs.View.{mat_of, outstanding_of, cells_at, mat_state, sound_numbers, sound_marks, sound_mat, AcknowledgeCall};
+ghost use Rattle.mat.specs.View.{mat_of, outstanding_of, cells_at, mat_state, sound_numbers, sound_marks, sound_mat, passed_rows, oldest_after, AcknowledgeCall};
 
 use limits::answer::Refusal;
+use limits::messages::Reply;
 use limits::{Limits, ring};
 
 // Whether the marks of `count` numbers from place `from` on, round the ring, are off: a span to the ring's end and one from place 0.
@@ -98,62 +99,31 @@ pub fn mat_sound(
         )
 }
 
-// What a send finds: the answer, and the row to send or zeros.
-#[derive(Clone, Copy)]
-pub struct NextRow {
-    pub answer: Result<(), Refusal>,
-    pub row: [u16; 16],
-}
-
-// What a resend finds: the answer, and the number of the row to send again or 0.
-#[derive(Clone, Copy)]
-pub struct DueNumber {
-    pub answer: Result<(), Refusal>,
-    pub number: usize,
-}
-
-// What an arriving reply gives: the answer, oldest, and by how many rows it rose.
+// What an arriving reply gives: oldest, and by how many rows it rose.
 #[derive(Clone, Copy)]
 pub struct Passed {
-    pub answer: Result<(), Refusal>,
     pub oldest: usize,
     pub passed: usize,
 }
 
-fn no_row(answer: Result<(), Refusal>) -> NextRow
-    ensures { (result.answer ≡ answer) × (result.row ≡ replicate 16 0) }
-{
-    NextRow {
-        answer,
-        row: [0; 16],
-    }
-}
-
 // The first row of the supply, where it may be sent: 10, 11, 12.
-pub fn next_row(l: Limits, oldest: usize, next: usize, supply: &[u16]) -> NextRow
+pub fn next_row(l: Limits, oldest: usize, next: usize, supply: &[u16]) -> Result<[u16; 16], Refusal>
     requires { (sound_limits l ≡ true) × (oldest < 2 * l.window) × (next < 2 * l.window) }
     ensures { (marks : List Bool) (timers cells : List ℕ)
-        → Answers (send_questions l (mat_state l.window (mat_of oldest next marks timers cells)) supply.now) result.answer result.row
-        (take 16 supply.now) (replicate 16 0) }
+        → Answered (send_questions l (mat_state l.window (mat_of oldest next marks timers cells)) supply.now) result (take 16 supply.now) }
 {
     let w = l.window;
-    if ring::gap(2 * w, oldest, next) < w {
-        if 16 <= supply.len() {
-            let row = rows::read(supply, 0);
-            if rows::legal_row(row) {
-                NextRow {
-                    answer: Ok(()),
-                    row,
-                }
-            } else {
-                no_row(Err(Refusal::IllegalCell))
-            }
-        } else {
-            no_row(Err(Refusal::NoRowLeft))
-        }
-    } else {
-        no_row(Err(Refusal::WindowFull))
+    if w <= ring::gap(2 * w, oldest, next) {
+        return Err(Refusal::WindowFull);
     }
+    if supply.len() < 16 {
+        return Err(Refusal::NoRowLeft);
+    }
+    let row = rows::read(supply, 0);
+    if !rows::legal_row(row) {
+        return Err(Refusal::IllegalCell);
+    }
+    Ok(row)
 }
 
 // The row is kept as row next, and its timer is set. Gives the next number.
@@ -181,12 +151,6 @@ pub fn keep(
     ring::forward(2 * w, next, 1)
 }
 
-fn not_due(answer: Result<(), Refusal>) -> DueNumber
-    ensures { (result.answer ≡ answer) × (result.number ≡ 0) }
-{
-    DueNumber { answer, number: 0 }
-}
-
 // The number oldest + k, where its row may be sent again: 14, 15, 16.
 pub fn due(
     l: Limits,
@@ -195,31 +159,25 @@ pub fn due(
     marks: &[bool; 32],
     timers: &[u16; 32],
     k: usize,
-) -> DueNumber
+) -> Result<usize, Refusal>
     requires { (sound_limits l ≡ true) × (oldest < 2 * l.window) × (next < 2 * l.window) × (distance (2 * l.window) oldest next ≤ l.window) }
     ensures { (cells : List ℕ)
-        → Answers (resend_questions l (mat_state l.window (mat_of oldest next marks.now timers.now cells)) k) result.answer result.number
-        (step (2 * l.window) oldest k) 0 }
+        → Answered (resend_questions l (mat_state l.window (mat_of oldest next marks.now timers.now cells)) k) result
+        (step (2 * l.window) oldest k) }
 {
     let w = l.window;
-    if k < ring::gap(2 * w, oldest, next) {
-        let number = ring::forward(2 * w, oldest, k);
-        let at = ring::slot(w, number);
-        if marks[at] {
-            not_due(Err(Refusal::AlreadyAcknowledged))
-        } else {
-            if timers[at] == 0 {
-                DueNumber {
-                    answer: Ok(()),
-                    number,
-                }
-            } else {
-                not_due(Err(Refusal::TimerRunning))
-            }
-        }
-    } else {
-        not_due(Err(Refusal::NotOutstanding))
+    if ring::gap(2 * w, oldest, next) <= k {
+        return Err(Refusal::NotOutstanding);
     }
+    let number = ring::forward(2 * w, oldest, k);
+    let at = ring::slot(w, number);
+    if marks[at] {
+        return Err(Refusal::AlreadyAcknowledged);
+    }
+    if timers[at] != 0 {
+        return Err(Refusal::TimerRunning);
+    }
+    Ok(number)
 }
 
 // The kept row under `number`, whose timer is set again.
@@ -268,7 +226,7 @@ fn mark_off(
     requires { (sound_limits l ≡ true) × (oldest < 2 * l.window) × (next < 2 * l.window) × (distance (2 * l.window) oldest next ≤ l.window)
         × (first < 2 * l.window) × (1 ≤ count) × (distance (2 * l.window) oldest first + count ≤ distance (2 * l.window) oldest next) }
     ensures { (timers cells : List ℕ) → sound_mat l (mat_of oldest next marks.old timers cells) ≡ true
-        → (result.answer ≡ Ok tt) × (sound_mat l (mat_of result.oldest next marks.new timers cells) ≡ true)
+        → (sound_mat l (mat_of result.oldest next marks.new timers cells) ≡ true)
         × (record { state = mat_state l.window (mat_of result.oldest next marks.new timers cells); passed = result.passed }
         ≡ passing l (mat_state l.window (mat_of oldest next marks.old timers cells)) (distance (2 * l.window) oldest first) count) }
 {
@@ -279,39 +237,33 @@ fn mark_off(
     let passed = marked_run(marks, w, from, out);
     rows::set_span(marks, w, from, passed, false);
     Passed {
-        answer: Ok(()),
         oldest: ring::forward(2 * w, oldest, passed),
         passed,
     }
 }
 
+// A reply, where its numbers are outstanding: 19.
 pub fn acknowledge(
     l: Limits,
     oldest: usize,
     next: usize,
     marks: &mut [bool; 32],
-    first: usize,
-    last: usize,
-) -> Passed
+    reply: Reply,
+) -> Result<Passed, Refusal>
     requires { (sound_limits l ≡ true) × (oldest < 2 * l.window) × (next < 2 * l.window) × (distance (2 * l.window) oldest next ≤ l.window)
-        × (sound_reply l (record { first = first; last = last }) ≡ true) }
+        × (sound_reply l reply ≡ true) }
     ensures { (timers cells : List ℕ) → sound_mat l (mat_of oldest next marks.old timers cells) ≡ true
-        → (let s = mat_state l.window (mat_of oldest next marks.old timers cells) in
-        AcknowledgeCall l (mat_of oldest next marks.old timers cells)
-        (acknowledge_questions l s (record { first = first; last = last })) (acknowledging l s (record { first = first; last = last }))
-        (record { answer = result.answer; mat = mat_of result.oldest next marks.new timers cells; passed = result.passed })) }
+        → (let m = mat_of oldest next marks.old timers cells in
+        AcknowledgeCall l (acknowledge_questions l (mat_state l.window m) reply) (passed_rows result)
+        (acknowledging l (mat_state l.window m) reply) m (mat_of (oldest_after result oldest) next marks.new timers cells)) }
 {
     let w = l.window;
+    let Reply { first, last } = reply;
     let count = ring::gap(2 * w, first, last) + 1;
-    if ring::gap(2 * w, oldest, first) + count <= ring::gap(2 * w, oldest, next) {
-        mark_off(l, oldest, next, marks, first, count)
-    } else {
-        Passed {
-            answer: Err(Refusal::SpanNotOutstanding),
-            oldest,
-            passed: 0,
-        }
+    if ring::gap(2 * w, oldest, next) < ring::gap(2 * w, oldest, first) + count {
+        return Err(Refusal::SpanNotOutstanding);
     }
+    Ok(mark_off(l, oldest, next, marks, first, count))
 }
 
 pub fn tick(l: Limits, timers: &mut [u16; 32], d: u16)

@@ -3,6 +3,7 @@ ghost use Rattle.std.specs.Prelude.{◌≡◌, true};
 ghost use Rattle.limits.specs.Limits.{sound_limits};
 ghost use Rattle.limits.specs.Tables.{sound_data, sound_reply};
 
+use limits::messages::Reply;
 use limits::{Limits, ring};
 
 pub fn data_sound(l: Limits, number: usize, row: [u16; 16]) -> bool
@@ -12,10 +13,11 @@ pub fn data_sound(l: Limits, number: usize, row: [u16; 16]) -> bool
     number < 2 * l.window && crate::legal_row(row)
 }
 
-pub fn reply_sound(l: Limits, first: usize, last: usize) -> bool
+pub fn reply_sound(l: Limits, reply: Reply) -> bool
     requires { sound_limits l ≡ true }
-    ensures { result ≡ sound_reply l (record { first = first; last = last }) }
+    ensures { result ≡ sound_reply l reply }
 {
     let w = l.window;
+    let Reply { first, last } = reply;
     first < 2 * w && (last < 2 * w && ring::gap(2 * w, first, last) + 1 <= w)
 }

@@ -1,6 +1,7 @@
 // Question 4 by itself.
 use air::{datatable, replytable};
 use limits::answer::Refusal;
+use mat::Mat;
 use std::io;
 use tries::line;
 
@@ -54,13 +55,13 @@ fn sound_tables(rt: &impl Print) -> io::Result<()> {
 
 fn sound_ends(rt: &impl Print) -> io::Result<()> {
     let l = tries::of(2, 1, 4);
-    sound(rt, b"mat", mat::sound(l, mat::fresh()))?;
-    let mut m = mat::fresh();
+    sound(rt, b"mat", Mat::fresh().is_sound(l))?;
+    let mut m = Mat::fresh();
     m.next = 4;
-    sound(rt, b"mat, next 2w", mat::sound(l, m))?;
-    m = mat::fresh();
+    sound(rt, b"mat, next 2w", m.is_sound(l))?;
+    m = Mat::fresh();
     m.marks[0] = true;
-    sound(rt, b"mat, oldest marked", mat::sound(l, m))?;
+    sound(rt, b"mat, oldest marked", m.is_sound(l))?;
     sound(rt, b"pad", pad::sound(l, pad::fresh()))?;
     let mut p = pad::fresh();
     p.timers[1] = 2;

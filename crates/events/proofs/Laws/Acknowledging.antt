@@ -3,15 +3,17 @@ use Prim.Native.Nat.{ℕ}
 use mathlib.Core.Path.{◌≡◌, refl, sym, ◌∙◌, ap}
 use mathlib.Core.List.{List, ◌++◌}
 use lib.ListN.{get_or}
+use Rattle.std.specs.Prelude.{Result, Ok}
+use Rattle.limits.specs.declared.answer.Refusal.{Refusal}
 use Rattle.limits.specs.Answer.{number_of}
 use Rattle.limits.specs.Lists.{all}
 use Rattle.limits.specs.Questions.{first_no}
 use Rattle.limits.specs.Tables.{Reply, remove, no_reply}
 use Rattle.limits.specs.Events.{arrive_reply}
-use Rattle.limits.proofs.Laws.Promise.{called-done, done-of, none-no}
+use Rattle.limits.proofs.Laws.Promise.{called-done, none-no}
 use Rattle.limits.proofs.Laws.Questions.{behind-passed}
-use Rattle.mat.specs.declared.Acknowledged.{Acknowledged}
-use Rattle.mat.specs.Rules.{acknowledge_questions, acknowledging}
+use Rattle.mat.specs.declared.Mat.{Mat}
+use Rattle.mat.specs.Rules.{Acknowledging, acknowledge_questions, acknowledging}
 use Rattle.mat.specs.View.{mat_state, AcknowledgeCall}
 use Rattle.pad.specs.View.{pad_state}
 use Rattle.air.specs.declared.replytable.ReplyTable.{ReplyTable}
@@ -36,44 +38,51 @@ module _ (k : Link) (p : Parts k) (n : ℕ) (read : FoundReply) (c : ReplyFound 
   body_is : body ≡ (get_or (reply_messages k.replies) n no_reply).body
   body_is = reply-is k.limits k.replies n read c e
 
-  module _ (a : Acknowledged)
-      (ca : AcknowledgeCall k.limits k.mat (acknowledge_questions k.limits (mat_state k.limits.window k.mat) body)
-      (acknowledging k.limits (mat_state k.limits.window k.mat) body) a) where
-    pub both-asked : number_of a.answer
+  module _ (r : Result ℕ Refusal) (m : Mat)
+      (ca : AcknowledgeCall k.limits (acknowledge_questions k.limits (mat_state k.limits.window k.mat) body) r
+      (acknowledging k.limits (mat_state k.limits.window k.mat) body) k.mat m) where
+    pub both-asked : number_of r
         ≡ first_no (place_questions n (reply_messages k.replies)
         ++ acknowledge_questions k.limits (mat_state k.limits.window k.mat) (get_or (reply_messages k.replies) n no_reply).body)
     unfolding all
     both-asked =
-        ca.answers.number
+        ca.answered.number
         ∙ ap (λ x. first_no (acknowledge_questions k.limits (mat_state k.limits.window k.mat) x)) body_is
         ∙ sym (behind-passed (place_questions n (reply_messages k.replies))
         (acknowledge_questions k.limits (mat_state k.limits.window k.mat) (get_or (reply_messages k.replies) n no_reply).body) refl passes)
 
-    pub acknowledged : (left : ReplyTable) (supply b : List ℕ) → number_of a.answer ≡ 0
-        → ReplyHolds k.limits left (remove n (reply_messages k.replies))
+  module _ (passed : ℕ) (m : Mat)
+      (ca : AcknowledgeCall k.limits (acknowledge_questions k.limits (mat_state k.limits.window k.mat) body) (Ok passed)
+      (acknowledging k.limits (mat_state k.limits.window k.mat) body) k.mat m) where
+    done : Acknowledging
+    done = acknowledging k.limits (mat_state k.limits.window k.mat) (get_or (reply_messages k.replies) n no_reply).body
+
+    pub acknowledged : (left : ReplyTable) (supply b : List ℕ) → ReplyHolds k.limits left (remove n (reply_messages k.replies))
         → Moves k supply b b (arrive_reply n)
         (record {
-          answer = a.answer;
-          link = record { limits = k.limits; mat = a.mat; pad = k.pad; datas = k.datas; replies = left };
-          counts = acknowledged_by a.passed;
+          answer = Ok tt;
+          link = record { limits = k.limits; mat = m; pad = k.pad; datas = k.datas; replies = left };
+          counts = acknowledged_by passed;
         })
-    unfolding link_state
-    acknowledged left supply b z cl =
-        called-done _ _ _ _ _ both-asked _ _ _ z
+    unfolding link_state done
+    acknowledged left supply b cl =
+        called-done _ _ _ _ _ (both-asked (Ok passed) m ca) _ _ _ refl
         (λ i. record {
           state =
               record {
                 limits = k.limits;
-                mat = (marks i).state;
+                mat = moved i;
                 pad = pad_state k.limits.window k.pad;
                 datas = data_messages k.datas;
                 replies = cl.1 i;
               };
-          counts = acknowledged_by (marks i).passed;
+          counts = acknowledged_by (rose i);
           buffer = b;
         })
-        (whole _ (record { limits = p.limits; mat = ca.keeps.stays p.mat; pad = p.pad; datas = p.datas; replies = cl.0 }))
+        (whole _ (record { limits = p.limits; mat = ca.stays p.mat; pad = p.pad; datas = p.datas; replies = cl.0 }))
       where
-        marks : record { state = mat_state k.limits.window a.mat; passed = a.passed }
-            ≡ acknowledging k.limits (mat_state k.limits.window k.mat) (get_or (reply_messages k.replies) n no_reply).body
-        marks = done-of _ _ _ _ _ ca.answers z ∙ ap (acknowledging k.limits (mat_state k.limits.window k.mat)) body_is
+        moved : mat_state k.limits.window m ≡ done.state
+        moved = ca.left ∙ ap (λ x. (acknowledging k.limits (mat_state k.limits.window k.mat) x).state) body_is
+
+        rose : passed ≡ done.passed
+        rose = ca.answered.value ∙ ap (λ x. (acknowledging k.limits (mat_state k.limits.window k.mat) x).passed) body_is

@@ -7,7 +7,7 @@ use lib.Dec.{ltb}
 use lib.ListN.{length, get_or}
 use Rattle.limits.specs.Answer.{number_of}
 use Rattle.limits.specs.Lists.{all}
-use Rattle.std.specs.Prelude.{Ok, Err}
+use Rattle.std.specs.Prelude.{Ok}
 use Rattle.limits.specs.Questions.{Question, ask, first_no, Called}
 use Rattle.limits.specs.Tables.{Data, capacity, no_data}
 use Rattle.limits.specs.Events.{arrive_data}

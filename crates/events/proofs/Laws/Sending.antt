@@ -1,18 +1,18 @@
 -- The mat's sendings, put in the air.
 use Prim.Native.Nat.{ℕ}
-use mathlib.Core.Path.{◌≡◌, ◌∙◌, ap}
+use mathlib.Core.Path.{◌≡◌, refl, ◌∙◌, ap}
 use mathlib.Core.Bool.{true}
 use mathlib.Core.List.{List, ◌++◌}
 use lib.Dec.{ltb}
 use lib.ListN.{length}
-use Rattle.limits.specs.Answer.{number_of}
+use Rattle.std.specs.Prelude.{Ok}
 use Rattle.limits.specs.Questions.{Question, Called}
-use Rattle.limits.specs.Tables.{capacity, put}
-use Rattle.limits.proofs.Laws.Promise.{called-done, done-of}
+use Rattle.limits.specs.Tables.{Data, capacity, put}
+use Rattle.limits.proofs.Laws.Promise.{called-done}
 use Rattle.limits.proofs.Laws.Questions.{numbered, more-passes}
-use Rattle.mat.specs.declared.Sent.{Sent}
+use Rattle.mat.specs.declared.Mat.{Mat}
 use Rattle.mat.specs.Rules.{Sending}
-use Rattle.mat.specs.View.{shown_sending, SendCall}
+use Rattle.mat.specs.View.{SendCall}
 use Rattle.pad.specs.View.{pad_state}
 use Rattle.air.specs.declared.datatable.DataTable.{DataTable}
 use Rattle.air.specs.Rules.{room_questions}
@@ -27,36 +27,33 @@ use Rattle.events.proofs.Laws.Parts.{Parts, whole}
 abbrev out_moved : Link → Sending → ℕ → List ℕ → Moved
 out_moved k x sent b = record { state = sent_out (link_state k) x; counts = record { sent = sent; acknowledged = 0; recorded = 0 }; buffer = b }
 
-module _ (k : Link) (p : Parts k) (qs : List Question) (done : Sending) (s : Sent) (c : SendCall k.limits k.mat qs done s) (e : number_of s.answer ≡ 0) where
-  sent_is : shown_sending k.limits s ≡ done
-  sent_is = done-of _ _ _ _ _ c.answers e
-
+module _ (k : Link) (p : Parts k) (qs : List Question) (done : Sending) (x : Data) (m : Mat) (c : SendCall k.limits qs (Ok x) done k.mat m) where
   -- the table takes the message
   pub sends : (into : DataTable) (sent : ℕ) (b : List ℕ) → numbered qs ≡ true → ltb (length (data_messages k.datas)) capacity ≡ true
-      → DataHolds k.limits into (put (record { body = record { number = s.number; row = s.row }; life = k.limits.datalife }) (data_messages k.datas))
-      → Called (qs ++ room_questions 13 (data_messages k.datas)) s.answer
+      → DataHolds k.limits into (put (record { body = x; life = k.limits.datalife }) (data_messages k.datas))
+      → Called (qs ++ room_questions 13 (data_messages k.datas)) (Ok tt)
       (record {
-        state = link_state (record { limits = k.limits; mat = s.mat; pad = k.pad; datas = into; replies = k.replies });
+        state = link_state (record { limits = k.limits; mat = m; pad = k.pad; datas = into; replies = k.replies });
         counts = record { sent = sent; acknowledged = 0; recorded = 0 };
         buffer = b;
       })
       (out_moved k done sent b) (unmoved (link_state k) b) sound_link k
-      (record { limits = k.limits; mat = s.mat; pad = k.pad; datas = into; replies = k.replies })
+      (record { limits = k.limits; mat = m; pad = k.pad; datas = into; replies = k.replies })
   unfolding link_state
   sends into sent b n t d =
-      called-done _ _ _ _ _ (e ∙ more-passes qs (number_of s.answer) c.answers.number 13 (ltb (length (data_messages k.datas)) capacity) n e t) _ _ _ e
+      called-done _ _ _ _ _ (more-passes qs 0 c.answered.number 13 (ltb (length (data_messages k.datas)) capacity) n refl t) _ _ _ refl
       (λ i. record {
         state =
             record {
               limits = k.limits;
-              mat = (sent_is i).state;
+              mat = c.left i;
               pad = pad_state k.limits.window k.pad;
               datas =
                   (d.1
-                  ∙ ap (λ (x : Sending). put (record { body = x.message; life = k.limits.datalife }) (data_messages k.datas)) sent_is) i;
+                  ∙ ap (λ (y : Data). put (record { body = y; life = k.limits.datalife }) (data_messages k.datas)) c.answered.value) i;
               replies = reply_messages k.replies;
             };
         counts = record { sent = sent; acknowledged = 0; recorded = 0 };
         buffer = b;
       })
-      (whole _ (record { limits = p.limits; mat = c.keeps.stays p.mat; pad = p.pad; datas = d.0; replies = p.replies }))
+      (whole _ (record { limits = p.limits; mat = c.stays p.mat; pad = p.pad; datas = d.0; replies = p.replies }))

@@ -2,7 +2,7 @@ use mathlib.Core.Path.{refl, sym, ◌∙◌, ap}
 use borrow.Author.Tests.{ltb-true}
 use Rattle.limits.specs.Answer.{number_of}
 use Rattle.limits.specs.Lists.{all}
-use Rattle.limits.proofs.Laws.Promise.{not_done}
+use Rattle.limits.proofs.Laws.Promise.{refusal-not-0}
 use Rattle.limits.proofs.Laws.Questions.{more_stays, more-fails}
 use Rattle.mat.specs.Rules.{send_questions}
 use Rattle.mat.specs.View.{mat_of, mat_state}
@@ -16,24 +16,24 @@ use Rattle.events.proofs.Laws.Tables.{data-room}
 use Rattle.events.proofs.Laws.Sending.{sends}
 use Rattle.events.proofs.matevents.send.Goals as goal
 
-pub returns-in_default : goal.returns-in_default
+pub returns-in-Err : goal.returns-in-Err
 unfolding link_state
-returns-in_default c = let u = c.next_row-found in let z = not_done u.result.answer c.in_default.not-Ok in
-    λ marks held padtimers padcells replies b h. lent-refused _ _ _ _ _ _ _ b _ refl c.stays.ensures (more_stays (send_questions c.args.l (mat_state c.args.l.window (mat_of c.args.n.oldest c.args.n.next marks c.args.mattimers.now c.args.matcells.now)) c.args.supply.now) _ (u.ensures marks c.args.mattimers.now c.args.matcells.now).number (room_questions 13 (data_messages (data_table c.args.n.datas c.args.datas.now))) z) z
+returns-in-Err c = let u = c.next_row in let z = refusal-not-0 c.in-Err.refusal in
+    λ marks held padtimers padcells replies b h. lent-refused _ _ _ _ _ _ _ b _ refl c.stays.ensures (more_stays (send_questions c.args.l (mat_state c.args.l.window (mat_of c.args.n.oldest c.args.n.next marks c.args.mattimers.now c.args.matcells.now)) c.args.supply.now) _ (sym (ap number_of c.in-Err.is) ∙ (u.ensures marks c.args.mattimers.now c.args.matcells.now).number) (room_questions 13 (data_messages (data_table c.args.n.datas c.args.datas.now))) z) z
 
 pub put_data-count-requires : goal.put_data-count-requires
 put_data-count-requires c = (c.requires.0, ltb-true c.args.n.datas 32 (sym c.room.ensures ∙ c.if-room.true), c.requires.2)
 
 pub returns-then-room : goal.returns-then-room
 unfolding link_state all
-returns-then-room c = let u = c.next_row-found in let e = ap number_of c.in-Ok.is in
+returns-then-room c = let u = c.next_row in let e = c.in-Ok.is in
     λ marks held padtimers padcells replies b h.
     let p = parts _ h in let m = mat_of c.args.n.oldest c.args.n.next marks c.args.mattimers.now c.args.matcells.now in
     let a = u.ensures marks c.args.mattimers.now c.args.matcells.now in
     let legal = next-legal c.args.l m c.args.supply.now _ _ a e in
     rw (c.with_next.ensures, c.with_datas.ensures, c.one_sent.ensures)
-    (sends _ p _ _ _ (send-done c.args.l m c.args.supply.now _ _ a e _ _ refl (c.keep-next.ensures c.args.n.oldest marks p.mat (next_fits c.args.l m c.args.supply.now _ _ a e) legal)) e _ 1 b refl (data-room (data_table c.args.n.datas c.args.datas.now) _ (sym c.room.ensures ∙ c.if-room.true)) (c.put_data-count.ensures p.datas legal))
+    (sends _ p _ _ _ _ (send-done c.args.l m c.args.supply.now _ _ a e _ (c.keep-next.ensures c.args.n.oldest marks p.mat (next_fits c.args.l m c.args.supply.now _ _ a e) legal)) _ 1 b refl (data-room (data_table c.args.n.datas c.args.datas.now) _ (sym c.room.ensures ∙ c.if-room.true)) (c.put_data-count.ensures p.datas legal))
 
 pub returns-else-room : goal.returns-else-room
 unfolding link_state all
-returns-else-room c = let u = c.next_row-found in λ marks held padtimers padcells replies b h. lent-refused _ _ _ _ _ _ _ b _ refl c.stays-else-room.ensures (more-fails (send_questions c.args.l (mat_state c.args.l.window (mat_of c.args.n.oldest c.args.n.next marks c.args.mattimers.now c.args.matcells.now)) c.args.supply.now) _ (u.ensures marks c.args.mattimers.now c.args.matcells.now).number 13 _ refl (ap number_of c.in-Ok.is) (data-room (data_table c.args.n.datas c.args.datas.now) _ (sym c.room.ensures ∙ c.if-room.false))) refl
+returns-else-room c = let u = c.next_row in λ marks held padtimers padcells replies b h. lent-refused _ _ _ _ _ _ _ b _ refl c.stays-else-room.ensures (more-fails (send_questions c.args.l (mat_state c.args.l.window (mat_of c.args.n.oldest c.args.n.next marks c.args.mattimers.now c.args.matcells.now)) c.args.supply.now) _ (sym (ap number_of c.in-Ok.is) ∙ (u.ensures marks c.args.mattimers.now c.args.matcells.now).number) 13 _ refl refl (data-room (data_table c.args.n.datas c.args.datas.now) _ (sym c.room.ensures ∙ c.if-room.false))) refl

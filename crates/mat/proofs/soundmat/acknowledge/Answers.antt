@@ -2,10 +2,10 @@ use Rattle.mat.specs.View.{mat_of}
 use Rattle.mat.proofs.Laws.Calls.{span-yes, span-no, passing-span}
 use Rattle.limits.proofs.Laws.Ring.{gap_below}
 use Rattle.limits.proofs.Laws.Messages.{reply-facts}
-use Rattle.limits.proofs.Laws.Promise.{called-done, called-refused}
+use Rattle.limits.proofs.Laws.Promise.{changed-refused}
 use Rattle.limits.proofs.Laws.Choice.{pick_yes, pick_no}
 use Rattle.limits.proofs.Laws.Good.{good}
-use Rattle.limits.specs.Answer.{number_of}
+use Rattle.mat.specs.Rules.{Acknowledging}
 use mathlib.Core.Path.{refl, sym, ◌∙◌, ap}
 use native.Mathlib.Omega.{arith}
 use Rattle.mat.proofs.soundmat.acknowledge.Goals as goal
@@ -27,7 +27,7 @@ gap-requires c = let r = reply-facts _ _ c.requires.4 in omega (arith, r, good _
 
 pub overflow_add-gap : goal.overflow_add-gap
 overflow_add-gap c = let r = reply-facts _ _ c.requires.4 in
-    let h = gap_below _ _ _ _ c.gap-count.ensures (omega (arith, r)) (omega (arith, r)) in let k = gap_below _ _ _ _ c.gap.ensures (omega (arith, r, c.requires.1)) (omega (arith, r, c.requires.1)) in omega (arith, good _ c.requires.0, h, k)
+    let h = gap_below _ _ _ _ c.gap-count.ensures (omega (arith, r)) (omega (arith, r)) in let k = gap_below _ _ _ _ c.gap-2.ensures (omega (arith, r, c.requires.1)) (omega (arith, r, c.requires.1)) in omega (arith, good _ c.requires.0, h, k)
 
 pub overflow_mul-w-3 : goal.overflow_mul-w-3
 overflow_mul-w-3 c = omega (arith, good _ c.requires.0)
@@ -35,18 +35,25 @@ overflow_mul-w-3 c = omega (arith, good _ c.requires.0)
 pub gap-requires-2 : goal.gap-requires-2
 gap-requires-2 c = let r = reply-facts _ _ c.requires.4 in omega (arith, r, good _ c.requires.0, c.requires.1, c.requires.2)
 
-pub mark_off-requires : goal.mark_off-requires
-mark_off-requires c = let r = reply-facts _ _ c.requires.4 in
-    (c.requires.0, c.requires.1, c.requires.2, c.requires.3, r.first, omega arith, omega (arith, c.gap-2.ensures, c.gap.ensures, c.if-gap-count.true))
-
 pub returns-then-gap-count : goal.returns-then-gap-count
 returns-then-gap-count c = λ timers cells s. let m = mat_of c.args.oldest c.args.next c.args.marks.now timers cells in
-    let e = c.mark_off.ensures timers cells s in
-    called-done _ _ _ _ _ (ap number_of e.0
-    ∙ sym (pick_yes _ _ _ _ (span-yes c.args.l m _ _ _ _ _ c.gap-count.ensures c.gap.ensures c.gap-2.ensures c.if-gap-count.true) refl)) _ _ _
-    (ap number_of e.0)
-    (e.2 ∙ passing-span c.args.l m _ _ _ _ _ c.gap-count.ensures c.gap.ensures c.gap-2.ensures) e.1
+    changed-refused _ _ _ _ _ _ _ _ (sym (pick_no _ _ _ _ (span-no c.args.l m c.args.reply _ _ _ c.gap-count.ensures c.gap-2.ensures c.gap.ensures c.if-gap-count.true) refl)) refl
 
-pub returns-else-gap-count : goal.returns-else-gap-count
-returns-else-gap-count c = λ timers cells s. let m = mat_of c.args.oldest c.args.next c.args.marks.now timers cells in
-    called-refused _ _ _ _ _ (sym (pick_no _ _ _ _ (span-no c.args.l m _ _ _ _ _ c.gap-count.ensures c.gap.ensures c.gap-2.ensures c.if-gap-count.false) refl)) _ _ _ refl refl refl
+pub mark_off-requires : goal.mark_off-requires
+mark_off-requires c = let r = reply-facts _ _ c.requires.4 in
+    (c.requires.0, c.requires.1, c.requires.2, c.requires.3, r.first, omega arith, omega (arith, c.gap-2.ensures, c.gap.ensures, c.if-gap-count.false))
+
+pub returns : goal.returns
+returns c = λ timers cells s. let m = mat_of c.args.oldest c.args.next c.args.marks.now timers cells in
+    let e = c.mark_off.ensures timers cells s in
+    let d = e.1 ∙ passing-span c.args.l m c.args.reply _ _ _ c.gap-count.ensures c.gap-2.ensures c.gap.ensures in
+    record {
+      answered =
+          record {
+            number = sym (pick_yes _ _ _ _ (span-yes c.args.l m c.args.reply _ _ _ c.gap-count.ensures c.gap-2.ensures c.gap.ensures c.if-gap-count.false) refl);
+            value = ap (λ (x : Acknowledging). x.passed) d;
+          };
+      left = ap (λ (x : Acknowledging). x.state) d;
+      kept = tt;
+      stays = λ _. e.0;
+    }

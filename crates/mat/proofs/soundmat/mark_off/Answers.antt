@@ -4,7 +4,7 @@ use Rattle.mat.proofs.Laws.Sound.{facts}
 use Rattle.limits.proofs.Laws.Ring.{place-at-distance}
 use Rattle.limits.proofs.Laws.Good.{good}
 use Rattle.rows.proofs.Laws.Places.{place-below, at-below}
-use mathlib.Core.Path.{refl, ◌∙◌, ap}
+use mathlib.Core.Path.{◌∙◌, ap}
 use Prim.Native.Nat.{◌+◌, ◌%◌}
 use native.Mathlib.Omega.{arith}
 use Rattle.mat.proofs.soundmat.mark_off.Goals as goal
@@ -47,7 +47,6 @@ returns c = λ timers cells sound. let m = mat_of c.args.oldest c.args.next c.ar
     let d = o ∙ ap (◌% c.args.l.window) {x = c.args.oldest} {y = c.args.oldest + 0} (omega arith) in
     let e = c.set_span.ensures in
     let r = run-counted _ m _ _ f.limits.window-low f.limits.window-high f.numbers c.requires.5 c.requires.6 k _ _ _ _ _ c.marked_run-passed.ensures c.gap-out.ensures o a e in (
-      refl,
       marked-sound _ m _ _ f c.requires.5 c.requires.6 k _ r _ _ _ _ _ a d e c.set_span-2.ensures c.forward.ensures,
       marked-shown _ m _ _ f c.requires.5 c.requires.6 k _ r _ _ _ _ _ a d e c.set_span-2.ensures c.forward.ensures,
     )
