@@ -8,7 +8,7 @@ use borrow.Author.Tests.{le-leb, lt-leb, eq-eqb}
 use Rattle.limits.specs.declared.answer.Refusal.{Refusal}
 use Rattle.limits.specs.declared.answer.Refusal.TheVariants.{BadWindow, BadTimes, BadWait, Unsound, OddEvents, PartialRow, ShortAnswers, UnknownKind, BadArgument, WindowFull, NoRowLeft, IllegalCell, DataTableFull, NotOutstanding, AlreadyAcknowledged, TimerRunning, NoMessage, ReplyTableFull, SpanNotOutstanding, NothingReady, RecordFull, UnknownFrame, BadFrameLength, BadFrameWindow, BadFrameNumber, BadFrameLife, BadFrameSpan, ShortBuffer, BadInputLength, BadRecordLength, NoSuchPage, ShortPageBuffer}
 use Rattle.std.specs.Prelude.{Result, Ok, Err}
-use Rattle.std.specs.Result.{is_ok}
+use Rattle.std.specs.Result.{is_ok, IsErrAnd}
 use Rattle.limits.specs.Answer.{refusal_number, number_of}
 use Rattle.limits.specs.Questions.{pick, Question, ask, first_no, Answer, Answers, Answered, Called, Changed, time_questions}
 use Rattle.limits.proofs.Laws.Choice.{pick_yes, pick_no, pick_under}
@@ -177,3 +177,27 @@ pub changed-refused : {S V X : Type 0} (qs : List Question) (refusal : Refusal) 
     → refusal_number refusal ≡ first_no qs → after ≡ before → Changed qs (Err refusal) done shown moved sound before after
 changed-refused qs refusal done shown moved sound before after e h =
     record { answered = record { number = e; value = tt }; left = tt; kept = h; stays = λ b. rw h b }
+
+-- what an Ok says: that every question was passed, and what it holds
+module _ {X : Type 0} (qs : List Question) (r : Result X Refusal) (done x : X) (a : Answered qs r done) (e : r ≡ Ok x) where
+  pub ok-passed : first_no qs ≡ 0
+  ok-passed = sym a.number ∙ ap number_of e
+
+  pub ok-is : x ≡ done
+  ok-is = rw e at a.value
+
+-- a refusal that `?` hands on, where the state is as it was
+pub changed-handed_on : {S V X : Type 0} (qs : List Question) (r : Result X Refusal) (refusal : Refusal) (done : X) (shown moved : V) (sound : S → Bool) (before after : S)
+    → IsErrAnd r (λ e. e ≡ refusal) → refusal_number refusal ≡ first_no qs → after ≡ before → Changed qs r done shown moved sound before after
+changed-handed_on qs (Ok x) refusal done shown moved sound before after i e h = absurd i
+changed-handed_on qs (Err r) refusal done shown moved sound before after i e h =
+    changed-refused qs r done shown moved sound before after (ap refusal_number i ∙ e) h
+
+-- Question 4 is put first: answered no, the state is as it was; passed, the call promises what its sound twin does.
+module _ {S V X : Type 0} (qs : List Question) (s : Bool) (done : X) (shown moved : V) (sound : S → Bool) (before after : S) where
+  pub changed-unsound : s ≡ false → after ≡ before → Changed (ask 4 s ∷ qs) (Err Unsound) done shown moved sound before after
+  changed-unsound e h = changed-refused (ask 4 s ∷ qs) Unsound done shown moved sound before after (unsound-first qs s e) h
+
+  pub changed-sound : (r : Result X Refusal) → s ≡ true → Changed qs r done shown moved sound before after
+      → Changed (ask 4 s ∷ qs) r done shown moved sound before after
+  changed-sound r e c = changed-as qs (ask 4 s ∷ qs) r done shown moved sound before after (sym (sound-first qs s e)) c

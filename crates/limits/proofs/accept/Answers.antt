@@ -3,7 +3,7 @@ use Rattle.limits.specs.Questions.{pick}
 use Rattle.limits.specs.Answer.{number_of}
 use Rattle.limits.specs.Limits.{accepted}
 use borrow.Author.Tests.{eq-eqb, ne_eqb}
-use mathlib.Core.Path.{refl, ◌∙◌, sym, ap}
+use mathlib.Core.Path.{◌∙◌, sym, ap}
 use Rattle.limits.proofs.accept.Goals as goal
 
 pub default_wait-resendwait-requires : goal.default_wait-resendwait-requires
