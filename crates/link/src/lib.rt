@@ -12,6 +12,7 @@ use events::moves::Numbers;
 use events::{Link, Progress};
 use limits::Limits;
 use limits::answer::Refusal;
+use pad::Pad;
 
 fn fresh(limits: Limits) -> Link
     ensures { result ≡ fresh_link limits }
@@ -19,7 +20,7 @@ fn fresh(limits: Limits) -> Link
     Link {
         limits,
         mat: mat::fresh(),
-        pad: pad::fresh(),
+        pad: Pad::fresh(),
         datas: datatable::empty(),
         replies: replytable::empty(),
     }
@@ -44,7 +45,7 @@ fn numbers_of(k: Link) -> Numbers
     Numbers {
         oldest: mat::oldest_of(m),
         next: mat::next_of(m),
-        wanted: pad::wanted_of(p),
+        wanted: p.wanted,
         datas: datatable::count_of(d),
         replies: replytable::count_of(r),
     }
@@ -68,7 +69,12 @@ fn joined(
     Link {
         limits: l,
         mat: mat::assembled(n.oldest, n.next, marks, mattimers, matcells),
-        pad: pad::assembled(n.wanted, held, padtimers, padcells),
+        pad: Pad {
+            wanted: n.wanted,
+            held,
+            timers: padtimers,
+            cells: padcells,
+        },
         datas: datatable::assembled(n.datas, datas),
         replies: replytable::assembled(n.replies, replies),
     }
@@ -85,9 +91,9 @@ pub fn sound(k: Link) -> bool
     let marks = mat::marks_of(m);
     let mattimers = mat::timers_of(m);
     let matcells = mat::cells_of(m);
-    let held = pad::held_of(p);
-    let padtimers = pad::timers_of(p);
-    let padcells = pad::cells_of(p);
+    let held = p.held;
+    let padtimers = p.timers;
+    let padcells = p.cells;
     let datas = datatable::words_of(k.datas);
     let replies = replytable::words_of(k.replies);
     runs::lent_sound(
@@ -107,9 +113,9 @@ pub fn step(k: Link, kind: u8, argument: u8, supply: &[u16], record: &mut [u16])
     let mut marks = mat::marks_of(m);
     let mut mattimers = mat::timers_of(m);
     let mut matcells = mat::cells_of(m);
-    let mut held = pad::held_of(p);
-    let mut padtimers = pad::timers_of(p);
-    let mut padcells = pad::cells_of(p);
+    let mut held = p.held;
+    let mut padtimers = p.timers;
+    let mut padcells = p.cells;
     let mut datas = datatable::words_of(k.datas);
     let mut replies = replytable::words_of(k.replies);
     let s = runs::lent_step(
@@ -158,9 +164,9 @@ pub fn run(
     let mut marks = mat::marks_of(m);
     let mut mattimers = mat::timers_of(m);
     let mut matcells = mat::cells_of(m);
-    let mut held = pad::held_of(p);
-    let mut padtimers = pad::timers_of(p);
-    let mut padcells = pad::cells_of(p);
+    let mut held = p.held;
+    let mut padtimers = p.timers;
+    let mut padcells = p.cells;
     let mut datas = datatable::words_of(k.datas);
     let mut replies = replytable::words_of(k.replies);
     let s = runs::lent_run(

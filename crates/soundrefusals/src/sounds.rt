@@ -1,6 +1,7 @@
 // Question 4 by itself.
 use air::{datatable, replytable};
 use limits::answer::Refusal;
+use pad::Pad;
 use std::io;
 use tries::line;
 
@@ -61,10 +62,10 @@ fn sound_ends(rt: &impl Print) -> io::Result<()> {
     m = mat::fresh();
     m.marks[0] = true;
     sound(rt, b"mat, oldest marked", mat::sound(l, m))?;
-    sound(rt, b"pad", pad::sound(l, pad::fresh()))?;
-    let mut p = pad::fresh();
+    sound(rt, b"pad", Pad::fresh().is_sound(l))?;
+    let mut p = Pad::fresh();
     p.timers[1] = 2;
-    sound(rt, b"pad, timer above its wait", pad::sound(l, p))
+    sound(rt, b"pad, timer above its wait", p.is_sound(l))
 }
 
 pub fn tries(rt: &impl Print) -> io::Result<()> {

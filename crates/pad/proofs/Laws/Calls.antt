@@ -1,22 +1,25 @@
 -- What an arrival gives, by whether the row is one of the window.
 use Prim.Native.Nat.{◌*◌}
-use mathlib.Core.Path.{◌≡◌, refl}
+use mathlib.Core.Path.{◌≡◌, refl, sym, ◌∙◌, ap}
 use mathlib.Core.Bool.{true, false}
 use lib.Dec.{ltb}
 use Rattle.limits.specs.Tables.{Data, no_reply}
 use Rattle.limits.specs.declared.Limits.{Limits}
 use Rattle.limits.specs.Ring.{distance}
 use Rattle.limits.proofs.Laws.Choice.{pick_yes, pick_no}
+use Rattle.pad.specs.declared.Pad.{Pad}
 use Rattle.pad.specs.Window.{PadState}
 use Rattle.pad.specs.Rules.{holding, arrival}
+use Rattle.pad.specs.View.{pad_state}
 
-module _ (l : Limits) (s : PadState) (x : Data) where
-  pub arrival-new : ltb (distance (2 * l.window) s.wanted x.number) l.window ≡ true
-      → arrival l s x ≡ record { state = holding l s x; old = false; reply = no_reply.body }
-  unfolding arrival
-  arrival-new h = pick_yes _ _ _ _ h refl
+module _ (l : Limits) (p : Pad) (x : Data) where
+  -- a row of the window, where `held` is what holding it left
+  pub arrival-new : (held : PadState) → ltb (distance (2 * l.window) p.wanted x.number) l.window ≡ true → held ≡ holding l (pad_state l.window p) x
+      → arrival l (pad_state l.window p) x ≡ record { state = held; old = false; reply = no_reply.body }
+  unfolding arrival pad_state
+  arrival-new held h e = pick_yes _ _ _ _ h refl ∙ ap (λ s. record { state = s; old = false; reply = no_reply.body }) (sym e)
 
-  pub arrival-old : ltb (distance (2 * l.window) s.wanted x.number) l.window ≡ false
-      → arrival l s x ≡ record { state = s; old = true; reply = record { first = x.number; last = x.number } }
-  unfolding arrival
+  pub arrival-old : ltb (distance (2 * l.window) p.wanted x.number) l.window ≡ false
+      → arrival l (pad_state l.window p) x ≡ record { state = pad_state l.window p; old = true; reply = record { first = x.number; last = x.number } }
+  unfolding arrival pad_state
   arrival-old h = pick_no _ _ _ _ h refl

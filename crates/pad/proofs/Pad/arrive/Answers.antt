@@ -3,7 +3,7 @@ use Rattle.limits.specs.Questions.{pick}
 use Rattle.limits.proofs.Laws.Choice.{two, pair-goes-on, pair-stops}
 use Rattle.limits.proofs.Laws.Messages.{message-low, message-legal}
 use Rattle.limits.proofs.Laws.Promise.{changed-sound, changed-unsound}
-use Rattle.pad.specs.View.{pad_state, sound_pad}
+use Rattle.pad.specs.View.{sound_pad}
 use Rattle.pad.specs.Rules.{Arrival}
 use Rattle.pad.proofs.Laws.Calls.{arrival-new, arrival-old}
 use Rattle.pad.proofs.Laws.Sound.{facts}
@@ -29,10 +29,10 @@ in_window-requires c = let h = two (sound_limits c.args.l) _ (sym c.is_sound.ens
     (h.0, (facts _ c.args.self.now h.1).low, message-low _ _ _ (sym c.data_sound.ensures ∙ c.if-not-data_sound.false))
 
 pub returns-then-not-in_window : goal.returns-then-not-in_window
-unfolding pick pad_state
+unfolding pick
 returns-then-not-in_window c = let a = c.args in
     let e = sym c.data_sound.ensures ∙ c.if-not-data_sound.false in
-    let q = arrival-old a.l (pad_state a.l.window a.self.now) a.«data» (sym c.in_window.ensures ∙ c.if-not-in_window.true) in
+    let q = arrival-old a.l a.self.now a.«data» (sym c.in_window.ensures ∙ c.if-not-in_window.true) in
     changed-sound _ _ _ _ _ _ _ _ _ (sym (pair-goes-on (sound_limits a.l) (sound_pad a.l a.self.now) _ _ c.is_sound.ensures c.if-not-is_sound.false) ∙ e)
     (record {
       answered = record { number = refl; value = ap (λ (y : Arrival). pick y.old (Some y.reply) None) (sym q) };
@@ -46,16 +46,16 @@ hold-requires c =
     ((two (sound_limits c.args.l) _ (sym c.is_sound.ensures ∙ c.if-not-is_sound.false)).0, message-low _ _ _ (sym c.data_sound.ensures ∙ c.if-not-data_sound.false))
 
 pub returns : goal.returns
-unfolding pick pad_state
+unfolding pick
 returns c = let b = c in let a = b.args in
     let e = sym b.data_sound.ensures ∙ b.if-not-data_sound.false in
     let near = sym b.in_window.ensures ∙ b.if-not-in_window.false in
-    let q = arrival-new a.l (pad_state a.l.window a.self.now) a.«data» near in
     let h = c.hold.ensures a.self.now.wanted (two (sound_limits a.l) _ (sym b.is_sound.ensures ∙ b.if-not-is_sound.false)).1 (message-legal _ _ _ e) (ltb-true _ _ near) in
+    let q = arrival-new a.l a.self.now a.«data» _ near h.1 in
     changed-sound _ _ _ _ _ _ _ _ _ (sym (pair-goes-on (sound_limits a.l) (sound_pad a.l a.self.now) _ _ b.is_sound.ensures b.if-not-is_sound.false) ∙ e)
     (record {
       answered = record { number = refl; value = ap (λ (y : Arrival). pick y.old (Some y.reply) None) (sym q) };
-      left = h.1 ∙ ap (λ (y : Arrival). y.state) (sym q);
+      left = ap (λ (y : Arrival). y.state) (sym q);
       kept = tt;
       stays = λ _. h.0;
     })
