@@ -1,37 +1,38 @@
 // The pad's calls.
 use limits::Limits;
+use limits::messages::Data;
 use pad::Pad;
 use std::io;
 use tries::line;
 
 // At a pad that holds nothing.
 fn arrive(rt: &impl Print, what: &[u8], l: Limits, number: usize, cell: u16) -> io::Result<()> {
-    let r = pad::arrive(l, pad::fresh(), number, [cell; 16]);
-    let answer = r.answer;
-    line(rt, what, answer)
+    let row = [cell; 16];
+    let mut p = Pad::fresh();
+    line(rt, what, p.arrive(l, Data { number, row }))
 }
 
 fn run_length(rt: &impl Print, what: &[u8], l: Limits, p: Pad) -> io::Result<()> {
-    let r = pad::run_length(l, p);
-    let answer = r.answer;
-    line(rt, what, answer)
+    line(rt, what, p.run_length(l))
 }
 
-fn reply(rt: &impl Print, what: &[u8], l: Limits, p: Pad, record: &mut [u16]) -> io::Result<()> {
-    let r = pad::reply(l, p, record);
-    let answer = r.answer;
-    line(rt, what, answer)
+fn reply(
+    rt: &impl Print,
+    what: &[u8],
+    l: Limits,
+    mut p: Pad,
+    record: &mut [u16],
+) -> io::Result<()> {
+    line(rt, what, p.reply(l, record))
 }
 
-fn tick(rt: &impl Print, what: &[u8], l: Limits, p: Pad, d: u16) -> io::Result<()> {
-    let r = pad::tick(l, p, d);
-    let answer = r.answer;
-    line(rt, what, answer)
+fn tick(rt: &impl Print, what: &[u8], l: Limits, mut p: Pad, d: u16) -> io::Result<()> {
+    line(rt, what, p.tick(l, d))
 }
 
 // A pad that holds rows 0 and 1. Every timer is 1 and every cell 5.
 fn two() -> Pad {
-    let mut p = pad::fresh();
+    let mut p = Pad::fresh();
     p.held[0] = true;
     p.held[1] = true;
     p.timers = [1; 32];
@@ -47,17 +48,17 @@ fn unsound(rt: &impl Print) -> io::Result<()> {
     arrive(rt, b"pad data, number 2w", l, 4, 5)?;
     arrive(rt, b"pad data, number largest", l, 18446744073709551615, 5)?;
     arrive(rt, b"pad data, cell 4096", l, 0, 4096)?;
-    let mut p = pad::fresh();
+    let mut p = Pad::fresh();
     p.wanted = 4;
     reply(rt, b"pad reply, wanted 2w", l, p, &mut record)?;
-    p = pad::fresh();
+    p = Pad::fresh();
     p.timers[1] = 2;
     tick(rt, b"pad tick, timer above its wait", l, p, 1)?;
     p = two();
     p.cells[0] = 4096;
     run_length(rt, b"pad run, held cell 4096", l, p)?;
     reply(rt, b"pad reply, held cell 4096", l, p, &mut record)?;
-    run_length(rt, b"pad run, w 0", tries::of(0, 1, 4), pad::fresh())
+    run_length(rt, b"pad run, w 0", tries::of(0, 1, 4), Pad::fresh())
 }
 
 fn refused(rt: &impl Print) -> io::Result<()> {
@@ -65,7 +66,7 @@ fn refused(rt: &impl Print) -> io::Result<()> {
     let mut record = [0u16; 32];
     let mut short = [0u16; 31];
     let mut empty = [0u16; 1];
-    let none = pad::fresh();
+    let none = Pad::fresh();
     let both = two();
     arrive(rt, b"pad data, new row", l, 1, 5)?;
     arrive(rt, b"pad data, old row", l, 2, 5)?;

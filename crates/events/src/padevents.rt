@@ -12,6 +12,7 @@ use crate::moves::{Numbers, Step};
 use air::{changes, lent};
 use limits::Limits;
 use limits::answer::Refusal;
+use limits::messages::Data;
 use pad::soundpad;
 
 // Message p is an old row: it is replied to and leaves the data table: 18.
@@ -75,14 +76,17 @@ pub fn arrive_data(
     let Ok(()) = answer else {
         return moves::stays(n, answer);
     };
-    let number = found.number;
-    if soundpad::in_window(l, n.wanted, number) {
-        let row = found.row;
-        soundpad::hold(l, number, held, padtimers, padcells, row);
+    let row = found.row;
+    let data = Data {
+        number: found.number,
+        row,
+    };
+    if soundpad::in_window(l, n.wanted, data.number) {
+        soundpad::hold(l, data, held, padtimers, padcells);
         let left = changes::remove_data(n.datas, datas, p);
         moves::stays(moves::with_datas(n, left), answer)
     } else {
-        take_old(l, n, datas, replies, p, number)
+        take_old(l, n, datas, replies, p, data.number)
     }
 }
 
@@ -108,18 +112,16 @@ pub fn reply(
         datas replies.new)
         [] «record».old «record».new reply result }
 {
-    let run = soundpad::run_length(l, n.wanted, held, padtimers);
-    let answer = run.answer;
-    let Ok(()) = answer else {
-        return moves::stays(n, answer);
+    let count = match soundpad::run_length(l, n.wanted, held, padtimers) {
+        Ok(count) => count,
+        Err(refusal) => return moves::stays(n, Err(refusal)),
     };
-    let count = run.count;
     if 16 * count <= record.len() {
         if lent::room(n.replies) {
             let passed = soundpad::record_run(l, n.wanted, held, padcells, count, record);
             let replied = changes::put_reply(l, n.replies, replies, n.wanted, passed.last);
             Step {
-                answer,
+                answer: Ok(()),
                 numbers: moves::with_wanted(moves::with_replies(n, replied), passed.wanted),
                 counts: moves::recorded_by(count),
             }

@@ -13,6 +13,7 @@ use events::{Link, Progress};
 use limits::Limits;
 use limits::answer::Refusal;
 use mat::Mat;
+use pad::Pad;
 
 fn fresh(limits: Limits) -> Link
     ensures { result ≡ fresh_link limits }
@@ -20,7 +21,7 @@ fn fresh(limits: Limits) -> Link
     Link {
         limits,
         mat: Mat::fresh(),
-        pad: pad::fresh(),
+        pad: Pad::fresh(),
         datas: datatable::empty(),
         replies: replytable::empty(),
     }
@@ -45,7 +46,7 @@ fn numbers_of(k: Link) -> Numbers
     Numbers {
         oldest: m.oldest,
         next: m.next,
-        wanted: pad::wanted_of(p),
+        wanted: p.wanted,
         datas: datatable::count_of(d),
         replies: replytable::count_of(r),
     }
@@ -75,7 +76,12 @@ fn joined(
             timers: mattimers,
             cells: matcells,
         },
-        pad: pad::assembled(n.wanted, held, padtimers, padcells),
+        pad: Pad {
+            wanted: n.wanted,
+            held,
+            timers: padtimers,
+            cells: padcells,
+        },
         datas: datatable::assembled(n.datas, datas),
         replies: replytable::assembled(n.replies, replies),
     }
@@ -92,9 +98,9 @@ pub fn sound(k: Link) -> bool
     let marks = m.marks;
     let mattimers = m.timers;
     let matcells = m.cells;
-    let held = pad::held_of(p);
-    let padtimers = pad::timers_of(p);
-    let padcells = pad::cells_of(p);
+    let held = p.held;
+    let padtimers = p.timers;
+    let padcells = p.cells;
     let datas = datatable::words_of(k.datas);
     let replies = replytable::words_of(k.replies);
     runs::lent_sound(
@@ -114,9 +120,9 @@ pub fn step(k: Link, kind: u8, argument: u8, supply: &[u16], record: &mut [u16])
     let mut marks = m.marks;
     let mut mattimers = m.timers;
     let mut matcells = m.cells;
-    let mut held = pad::held_of(p);
-    let mut padtimers = pad::timers_of(p);
-    let mut padcells = pad::cells_of(p);
+    let mut held = p.held;
+    let mut padtimers = p.timers;
+    let mut padcells = p.cells;
     let mut datas = datatable::words_of(k.datas);
     let mut replies = replytable::words_of(k.replies);
     let s = runs::lent_step(
@@ -165,9 +171,9 @@ pub fn run(
     let mut marks = m.marks;
     let mut mattimers = m.timers;
     let mut matcells = m.cells;
-    let mut held = pad::held_of(p);
-    let mut padtimers = pad::timers_of(p);
-    let mut padcells = pad::cells_of(p);
+    let mut held = p.held;
+    let mut padtimers = p.timers;
+    let mut padcells = p.cells;
     let mut datas = datatable::words_of(k.datas);
     let mut replies = replytable::words_of(k.replies);
     let s = runs::lent_run(

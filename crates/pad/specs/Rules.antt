@@ -28,9 +28,6 @@ arrival l s x =
     (record { state = holding l s x; old = false; reply = no_reply.body })
     (record { state = s; old = true; reply = record { first = x.number; last = x.number } })
 
-abbrev pub no_arrival : PadState → Arrival
-no_arrival s = record { state = s; old = false; reply = no_reply.body }
-
 -- how many rows from wanted on are ready without a break
 abbrev pub run : PadState → ℕ
 run s = leading ready s.slots
@@ -58,9 +55,6 @@ replying l s buffer =
       reply = record { first = s.wanted; last = step (2 * l.window) s.wanted (run s - 1) };
       buffer = joined (map contents (take (run s) s.slots)) ++ drop (16 * run s) buffer;
     }
-
-abbrev pub not_replying : PadState → List ℕ → Replying
-not_replying s buffer = record { state = s; count = 0; reply = no_reply.body; buffer = buffer }
 
 abbrev pub slot_falls : ℕ → Slot → Slot
 slot_falls d empty = empty

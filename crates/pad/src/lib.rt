@@ -1,17 +1,19 @@
-// The pad (receiver). Each call puts question 4 first: to the limits, the pad and the message handed to it.
+// The pad (receiver). Each call puts question 4 first: to the limits, the pad and the message handed to it. A refused call leaves
+// the pad and the record as they were.
 #![tactic(auto)]
 
-ghost use Rattle.std.specs.Prelude.{◌≡◌, true, ◌&&◌, [], ◌∷◌, length};
-ghost use Rattle.limits.specs.Questions.{ask, Answers, time_questions};
+ghost use Rattle.std.specs.Prelude.{◌≡◌, ◌&&◌, [], ◌∷◌, length, MatchResult};
+ghost use Rattle.limits.specs.Questions.{pick, ask, Answered, Changed, time_questions};
 ghost use Rattle.limits.specs.Limits.{sound_limits};
 ghost use Rattle.limits.specs.Tables.{sound_data};
 ghost use Rattle.pad.specs.Rules.{arrival, run, run_questions, reply_questions, replying, ticked};
-ghost use Rattle.pad.specs.View.{pad_of, pad_state, fresh_pad, sound_pad, ArriveCall, ReplyCall, TickCall};
+ghost use Rattle.pad.specs.View.{pad_state, fresh_pad, sound_pad};
 
 pub mod soundpad;
 
 use limits::Limits;
 use limits::answer::Refusal;
+use limits::messages::{Data, Reply};
 
 // `wanted` is the number, modulo 2w, of the first row that is not recorded. Row m stands at place m mod w, beside its mark (held)
 // and its reply timer.
@@ -23,241 +25,105 @@ pub struct Pad {
     pub cells: [u16; 512],
 }
 
-// A pad's insides handed out and taken back, so that what holds a pad and lends its arrays need not know its fields.
-pub fn wanted_of(p: Pad) -> usize
-    ensures { result ≡ p.wanted }
-{
-    p.wanted
-}
-
-pub fn held_of(p: Pad) -> [bool; 32]
-    ensures { result ≡ p.held }
-{
-    p.held
-}
-
-pub fn timers_of(p: Pad) -> [u16; 32]
-    ensures { result ≡ p.timers }
-{
-    p.timers
-}
-
-pub fn cells_of(p: Pad) -> [u16; 512]
-    ensures { result ≡ p.cells }
-{
-    p.cells
-}
-
-pub fn assembled(wanted: usize, held: [bool; 32], timers: [u16; 32], cells: [u16; 512]) -> Pad
-    ensures { result ≡ pad_of wanted held timers cells }
-{
-    Pad {
-        wanted,
-        held,
-        timers,
-        cells,
-    }
-}
-
-// Where the row was an old one, `first` and `last` are the reply to put.
-#[derive(Clone, Copy)]
-pub struct Arrived {
-    pub answer: Result<(), Refusal>,
-    pub pad: Pad,
-    pub old: bool,
-    pub first: usize,
-    pub last: usize,
-}
-
-#[derive(Clone, Copy)]
-pub struct RunLength {
-    pub answer: Result<(), Refusal>,
-    pub count: usize,
-}
-
-// `count` rows were recorded, and `first` and `last` are the reply to put.
+// `count` rows were recorded, and `reply` is to be put.
 #[derive(Clone, Copy)]
 pub struct Replied {
-    pub answer: Result<(), Refusal>,
-    pub pad: Pad,
     pub count: usize,
-    pub first: usize,
-    pub last: usize,
+    pub reply: Reply,
 }
 
-#[derive(Clone, Copy)]
-pub struct Ticked {
-    pub answer: Result<(), Refusal>,
-    pub pad: Pad,
-}
-
-pub fn fresh() -> Pad
-    ensures { result ≡ fresh_pad }
-{
-    assembled(0, [false; 32], [0; 32], [0; 512])
-}
-
-// Question 4 of limits and a pad.
-pub fn sound(l: Limits, p: Pad) -> bool
-    ensures { result ≡ (sound_limits l && sound_pad l p) }
-{
-    let held = p.held;
-    let timers = p.timers;
-    let cells = p.cells;
-    limits::sound_limits(l) && soundpad::pad_sound(l, p.wanted, &held, &timers, &cells)
-}
-
-// Question 4 of limits, a pad and a message.
-fn sound_with(l: Limits, p: Pad, number: usize, row: [u16; 16]) -> bool
-    ensures { result ≡ (sound_limits l && (sound_pad l p && sound_data l (record { number = number; row = row }))) }
-{
-    sound(l, p) && rows::messages::data_sound(l, number, row)
-}
-
-// Data arrives at a pad that passed question 4.
-fn taken(l: Limits, p: Pad, number: usize, row: [u16; 16]) -> Arrived
-    requires { (sound_limits l ≡ true) × (sound_pad l p ≡ true) × (sound_data l (record { number = number; row = row }) ≡ true) }
-    ensures { ArriveCall l p [] (arrival l (pad_state l.window p) (record { number = number; row = row })) result }
-{
-    let wanted = p.wanted;
-    if soundpad::in_window(l, wanted, number) {
-        let mut held = p.held;
-        let mut timers = p.timers;
-        let mut cells = p.cells;
-        soundpad::hold(l, number, &mut held, &mut timers, &mut cells, row);
-        Arrived {
-            answer: Ok(()),
-            pad: assembled(wanted, held, timers, cells),
-            old: false,
-            first: 0,
-            last: 0,
-        }
-    } else {
-        Arrived {
-            answer: Ok(()),
-            pad: p,
-            old: true,
-            first: number,
-            last: number,
+impl Pad {
+    pub fn fresh() -> Pad
+        ensures { result ≡ fresh_pad }
+    {
+        Pad {
+            wanted: 0,
+            held: [false; 32],
+            timers: [0; 32],
+            cells: [0; 512],
         }
     }
-}
 
-// Data arrives: 4. The row is held, or it is an old one and a reply for it is to be put.
-pub fn arrive(l: Limits, p: Pad, number: usize, row: [u16; 16]) -> Arrived
-    ensures { ArriveCall l p
-        (ask 4 (sound_limits l && (sound_pad l p && sound_data l (record { number = number; row = row }))) ∷ [])
-        (arrival l (pad_state l.window p) (record { number = number; row = row })) result }
-{
-    if sound_with(l, p, number, row) {
-        taken(l, p, number, row)
-    } else {
-        Arrived {
-            answer: Err(Refusal::Unsound),
-            pad: p,
-            old: false,
-            first: 0,
-            last: 0,
+    // Question 4 of limits and the pad.
+    pub fn is_sound(&self, l: Limits) -> bool
+        ensures { result ≡ (sound_limits l && sound_pad l self.now) }
+    {
+        limits::sound_limits(l)
+            && soundpad::pad_sound(l, self.wanted, &self.held, &self.timers, &self.cells)
+    }
+
+    // Data arrives: 4. The row is held, or it is an old one and the reply to put for it is given.
+    pub fn arrive(&mut self, l: Limits, data: Data) -> Result<Option<Reply>, Refusal>
+        ensures { let done = arrival l (pad_state l.window self.old) «data» in
+            Changed (ask 4 (sound_limits l && (sound_pad l self.old && sound_data l «data»)) ∷ [])
+            result (pick done.old (Some done.reply) None) (pad_state l.window self.new) done.state
+            (sound_pad l) self.old self.new }
+    {
+        if !self.is_sound(l) {
+            return Err(Refusal::Unsound);
         }
-    }
-}
-
-// How many rows a reply would record: 4, 20.
-pub fn run_length(l: Limits, p: Pad) -> RunLength
-    ensures { Answers (ask 4 (sound_limits l && sound_pad l p) ∷ run_questions (pad_state l.window p))
-        result.answer result.count (run (pad_state l.window p)) 0 }
-{
-    if sound(l, p) {
-        let held = p.held;
-        let timers = p.timers;
-        soundpad::run_length(l, p.wanted, &held, &timers)
-    } else {
-        RunLength {
-            answer: Err(Refusal::Unsound),
-            count: 0,
+        if !rows::messages::data_sound(l, data) {
+            return Err(Refusal::Unsound);
         }
+        if !soundpad::in_window(l, self.wanted, data.number) {
+            let reply = Reply {
+                first: data.number,
+                last: data.number,
+            };
+            return Ok(Some(reply));
+        }
+        soundpad::hold(l, data, &mut self.held, &mut self.timers, &mut self.cells);
+        Ok(None)
     }
-}
 
-// The pad as it is, with nothing recorded and nothing to put.
-fn not_replied(p: Pad, answer: Result<(), Refusal>) -> Replied
-    ensures { (result.answer ≡ answer) × (result.pad ≡ p) × (result.count ≡ 0) × (result.first ≡ 0) × (result.last ≡ 0) }
-{
-    Replied {
-        answer,
-        pad: p,
-        count: 0,
-        first: 0,
-        last: 0,
+    // How many rows a reply would record: 4, 20.
+    pub fn run_length(&self, l: Limits) -> Result<usize, Refusal>
+        ensures { let s = pad_state l.window self.now in
+            Answered (ask 4 (sound_limits l && sound_pad l self.now) ∷ run_questions s) result (run s) }
+    {
+        if !self.is_sound(l) {
+            return Err(Refusal::Unsound);
+        }
+        soundpad::run_length(l, self.wanted, &self.held, &self.timers)
     }
-}
 
-// A reply of a pad that passed question 4: 20, 21.
-fn recorded(l: Limits, p: Pad, buffer: &mut [u16]) -> Replied
-    requires { (sound_limits l ≡ true) × (sound_pad l p ≡ true) }
-    ensures { ReplyCall l p buffer.old buffer.new
-        (reply_questions (pad_state l.window p) (length buffer.old))
-        (replying l (pad_state l.window p) buffer.old) result }
-{
-    let first = p.wanted;
-    let mut held = p.held;
-    let timers = p.timers;
-    let cells = p.cells;
-    let run = soundpad::run_length(l, first, &held, &timers);
-    let answer = run.answer;
-    let Ok(()) = answer else {
-        return not_replied(p, answer);
-    };
-    let count = run.count;
-    if 16 * count <= buffer.len() {
-        let passed = soundpad::record_run(l, first, &mut held, &cells, count, buffer);
-        Replied {
-            answer,
-            pad: assembled(passed.wanted, held, timers, cells),
-            count,
+    // A reply for the run of rows at wanted, which are written to the record's front: 4, 20, 21.
+    pub fn reply(&mut self, l: Limits, record: &mut [u16]) -> Result<Replied, Refusal>
+        ensures pad { let s = pad_state l.window self.old in let done = replying l s «record».old in
+            Changed (ask 4 (sound_limits l && sound_pad l self.old) ∷ reply_questions s (length «record».old))
+            result (record { count = done.count; reply = done.reply }) (pad_state l.window self.new) done.state
+            (sound_pad l) self.old self.new }
+        ensures rows { MatchResult result
+            (λ _. «record».new ≡ (replying l (pad_state l.window self.old) «record».old).buffer)
+            (λ _. «record».new ≡ «record».old) }
+    {
+        let count = self.run_length(l)?;
+        if record.len() < 16 * count {
+            return Err(Refusal::RecordFull);
+        }
+        let first = self.wanted;
+        let passed = soundpad::record_run(l, first, &mut self.held, &self.cells, count, record);
+        self.wanted = passed.wanted;
+        let reply = Reply {
             first,
             last: passed.last,
-        }
-    } else {
-        not_replied(p, Err(Refusal::RecordFull))
+        };
+        Ok(Replied { count, reply })
     }
-}
 
-// A reply for the run of rows at wanted, which are written to the front of `buffer`: 4, 20, 21.
-pub fn reply(l: Limits, p: Pad, buffer: &mut [u16]) -> Replied
-    ensures { ReplyCall l p buffer.old buffer.new
-        (ask 4 (sound_limits l && sound_pad l p) ∷ reply_questions (pad_state l.window p) (length buffer.old))
-        (replying l (pad_state l.window p) buffer.old) result }
-{
-    if sound(l, p) {
-        recorded(l, p, buffer)
-    } else {
-        not_replied(p, Err(Refusal::Unsound))
-    }
-}
-
-// Every reply timer falls by d: 4, 9.
-pub fn tick(l: Limits, p: Pad, d: u16) -> Ticked
-    ensures { TickCall l p (ask 4 (sound_limits l && sound_pad l p) ∷ time_questions d) (ticked d (pad_state l.window p)) result }
-{
-    if sound(l, p) {
-        if 1 <= d {
-            let mut pad = p;
-            soundpad::tick(l, &mut pad.timers, d);
-            Ticked {
-                answer: Ok(()),
-                pad,
-            }
-        } else {
-            Ticked {
-                answer: Err(Refusal::BadArgument),
-                pad: p,
-            }
+    // Every reply timer falls by d: 4, 9.
+    pub fn tick(&mut self, l: Limits, d: u16) -> Result<(), Refusal>
+        ensures { let s = pad_state l.window self.old in
+            Changed (ask 4 (sound_limits l && sound_pad l self.old) ∷ time_questions d)
+            result tt (pad_state l.window self.new) (ticked d s) (sound_pad l) self.old self.new }
+    {
+        if !self.is_sound(l) {
+            return Err(Refusal::Unsound);
         }
-    } else {
-        Ticked {
-            answer: Err(Refusal::Unsound),
-            pad: p,
+        if d == 0 {
+            return Err(Refusal::BadArgument);
         }
+        soundpad::tick(l, &mut self.timers, d);
+        Ok(())
     }
 }

@@ -3,14 +3,14 @@
 ghost use Rattle.std.specs.Prelude.{◌≡◌, Bool, true, false, ◌&&◌, List, ◌++◌, ℕ, ◌+◌, ◌*◌, ◌%◌, ◌<◌, ◌≤◌, ltb, length, get_or, drop};
 ghost use Rattle.limits.specs.Lists.{tab, all, leading, joined};
 ghost use Rattle.limits.specs.Cells.{row_at, legal_row};
-ghost use Rattle.limits.specs.Questions.{pick, Answers};
+ghost use Rattle.limits.specs.Questions.{pick, Answered};
 ghost use Rattle.limits.specs.Limits.{sound_limits};
 ghost use Rattle.limits.specs.Ring.{distance};
 ghost use Rattle.pad.specs.Rules.{holding, run, run_questions, replying, ticked};
 ghost use Rattle.pad.specs.View.{pad_of, slot_at, pad_state, sound_slot, sound_pad};
 
-use crate::RunLength;
 use limits::answer::Refusal;
+use limits::messages::Data;
 use limits::{Limits, ring};
 
 // Whether the row at place `at` has legal cells, where it is held.
@@ -92,23 +92,22 @@ pub fn in_window(l: Limits, wanted: usize, number: usize) -> bool
 // The row is held, and its reply timer starts.
 pub fn hold(
     l: Limits,
-    number: usize,
+    data: Data,
     held: &mut [bool; 32],
     timers: &mut [u16; 32],
     cells: &mut [u16; 512],
-    row: [u16; 16],
 )
-    requires { (sound_limits l ≡ true) × (number < 2 * l.window) }
+    requires { (sound_limits l ≡ true) × («data».number < 2 * l.window) }
     ensures { (wanted : ℕ) → sound_pad l (pad_of wanted held.old timers.old cells.old) ≡ true
-        → legal_row row ≡ true → distance (2 * l.window) wanted number < l.window
+        → legal_row «data».row ≡ true → distance (2 * l.window) wanted «data».number < l.window
         → (sound_pad l (pad_of wanted held.new timers.new cells.new) ≡ true)
         × (pad_state l.window (pad_of wanted held.new timers.new cells.new)
-        ≡ holding l (pad_state l.window (pad_of wanted held.old timers.old cells.old)) (record { number = number; row = row })) }
+        ≡ holding l (pad_state l.window (pad_of wanted held.old timers.old cells.old)) «data») }
 {
-    let at = ring::slot(l.window, number);
+    let at = ring::slot(l.window, data.number);
     rows::set_span(held, l.window, at, 1, true);
     rows::set(timers, at, l.replywait);
-    rows::write(cells, 16 * at, row);
+    rows::write(cells, 16 * at, data.row);
 }
 
 // Held with a reply timer above 0.
@@ -138,24 +137,22 @@ fn ready_run(held: &[bool; 32], timers: &[u16; 32], w: usize, from: usize) -> us
 }
 
 // The length of the run at wanted: 20.
-pub fn run_length(l: Limits, wanted: usize, held: &[bool; 32], timers: &[u16; 32]) -> RunLength
+pub fn run_length(
+    l: Limits,
+    wanted: usize,
+    held: &[bool; 32],
+    timers: &[u16; 32],
+) -> Result<usize, Refusal>
     requires { (sound_limits l ≡ true) × (wanted < 2 * l.window) }
     ensures { (cells : List ℕ) → (let s = pad_state l.window (pad_of wanted held.now timers.now cells) in
-        Answers (run_questions s) result.answer result.count (run s) 0) }
+        Answered (run_questions s) result (run s)) }
 {
     let w = l.window;
     let count = ready_run(held, timers, w, ring::slot(w, wanted));
-    if 0 < count {
-        RunLength {
-            answer: Ok(()),
-            count,
-        }
-    } else {
-        RunLength {
-            answer: Err(Refusal::NothingReady),
-            count: 0,
-        }
+    if count == 0 {
+        return Err(Refusal::NothingReady);
     }
+    Ok(count)
 }
 
 // Writes `count` rows from place `from` on, round the ring, to the front of `buffer`.

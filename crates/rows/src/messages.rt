@@ -3,14 +3,14 @@ ghost use Rattle.std.specs.Prelude.{◌≡◌, true};
 ghost use Rattle.limits.specs.Limits.{sound_limits};
 ghost use Rattle.limits.specs.Tables.{sound_data, sound_reply};
 
-use limits::messages::Reply;
+use limits::messages::{Data, Reply};
 use limits::{Limits, ring};
 
-pub fn data_sound(l: Limits, number: usize, row: [u16; 16]) -> bool
+pub fn data_sound(l: Limits, data: Data) -> bool
     requires { sound_limits l ≡ true }
-    ensures { result ≡ sound_data l (record { number = number; row = row }) }
+    ensures { result ≡ sound_data l «data» }
 {
-    number < 2 * l.window && crate::legal_row(row)
+    data.number < 2 * l.window && crate::legal_row(data.row)
 }
 
 pub fn reply_sound(l: Limits, reply: Reply) -> bool

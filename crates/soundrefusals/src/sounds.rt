@@ -2,6 +2,7 @@
 use air::{datatable, replytable};
 use limits::answer::Refusal;
 use mat::Mat;
+use pad::Pad;
 use std::io;
 use tries::line;
 
@@ -62,10 +63,10 @@ fn sound_ends(rt: &impl Print) -> io::Result<()> {
     m = Mat::fresh();
     m.marks[0] = true;
     sound(rt, b"mat, oldest marked", m.is_sound(l))?;
-    sound(rt, b"pad", pad::sound(l, pad::fresh()))?;
-    let mut p = pad::fresh();
+    sound(rt, b"pad", Pad::fresh().is_sound(l))?;
+    let mut p = Pad::fresh();
     p.timers[1] = 2;
-    sound(rt, b"pad, timer above its wait", pad::sound(l, p))
+    sound(rt, b"pad, timer above its wait", p.is_sound(l))
 }
 
 pub fn tries(rt: &impl Print) -> io::Result<()> {

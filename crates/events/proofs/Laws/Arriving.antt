@@ -12,11 +12,10 @@ use Rattle.limits.specs.Questions.{Question, ask, first_no, Called}
 use Rattle.limits.specs.Tables.{Data, capacity, no_data}
 use Rattle.limits.specs.Events.{arrive_data}
 use Rattle.limits.proofs.Laws.Choice.{pick_yes, pick_no}
-use Rattle.limits.proofs.Laws.Promise.{called-as, called-done, done-of, none-no}
+use Rattle.limits.proofs.Laws.Promise.{called-as, called-done, none-no}
 use Rattle.limits.proofs.Laws.Questions.{behind-passed}
-use Rattle.pad.specs.declared.Arrived.{Arrived}
 use Rattle.pad.specs.Rules.{Arrival, arrival}
-use Rattle.pad.specs.View.{pad_state, shown_arrival, ArriveCall}
+use Rattle.pad.specs.View.{pad_state}
 use Rattle.air.specs.declared.changes.FoundData.{FoundData}
 use Rattle.air.specs.Rules.{place_questions, room_questions}
 use Rattle.air.specs.Data.{data_messages, DataFound}
@@ -54,10 +53,10 @@ module _ (k : Link) (p : Parts k) (n : ℕ) (read : FoundData) (c : DataFound k.
   body_is : body ≡ in_table
   body_is = data_is k.limits k.datas n read c e
 
-  module _ (a : Arrived) (ca : ArriveCall k.limits k.pad [] (arrival k.limits (pad_state k.limits.window k.pad) body) a) where
-    arrived-is : shown_arrival k.limits a ≡ made
-    arrived-is =
-        done-of _ _ _ _ _ ca.answers ca.answers.number ∙ ap (arrival k.limits (pad_state k.limits.window k.pad)) body_is
+  -- what the pad makes of the message that was read
+  module _ (a : Arrival) (is : arrival k.limits (pad_state k.limits.window k.pad) body ≡ a) where
+    arrived-is : a ≡ made
+    arrived-is = sym is ∙ ap (arrival k.limits (pad_state k.limits.window k.pad)) body_is
 
     old-as : made.old ≡ a.old
     old-as = sym (ap (λ (x : Arrival). x.old) arrived-is)
@@ -71,12 +70,12 @@ module _ (k : Link) (p : Parts k) (n : ℕ) (read : FoundData) (c : DataFound k.
 
     -- an old row
     module _ (o : a.old ≡ true) where
-      reply-is : record { first = a.first; last = a.last } ≡ made.reply
+      reply-is : a.reply ≡ made.reply
       reply-is = ap (λ (x : Arrival). x.reply) arrived-is
 
       pub old-arrives : (r : Progress) (supply b : List ℕ)
           → Called (room_questions 18 (reply_messages k.replies)) r.answer (shown r b)
-          (unmoved (old_taken (link_state k) n (record { first = a.first; last = a.last })) b) (unmoved (link_state k) b) sound_link k r.link
+          (unmoved (old_taken (link_state k) n a.reply) b) (unmoved (link_state k) b) sound_link k r.link
           → Moves k supply b b (arrive_data n) r
       unfolding link_state
       old-arrives r supply b t =
@@ -87,7 +86,7 @@ module _ (k : Link) (p : Parts k) (n : ℕ) (read : FoundData) (c : DataFound k.
 
     -- a row of the window
     pub new-arrives : (r : Progress) (supply b : List ℕ) → a.old ≡ false
-        → (r.answer ≡ (Ok tt)) × (sound_link r.link ≡ true) × (r.counts ≡ no_counts) × (link_state r.link ≡ new_taken (link_state k) n (pad_state k.limits.window a.pad))
+        → (r.answer ≡ (Ok tt)) × (sound_link r.link ≡ true) × (r.counts ≡ no_counts) × (link_state r.link ≡ new_taken (link_state k) n a.state)
         → Moves k supply b b (arrive_data n) r
     unfolding link_state
     new-arrives r supply b o t =
@@ -96,5 +95,5 @@ module _ (k : Link) (p : Parts k) (n : ℕ) (read : FoundData) (c : DataFound k.
         (λ i. record { state = (t.3 ∙ state-is) i; counts = t.2 i; buffer = b })
         t.1
       where
-        state-is : new_taken (link_state k) n (pad_state k.limits.window a.pad) ≡ taken (link_state k) n made
+        state-is : new_taken (link_state k) n a.state ≡ taken (link_state k) n made
         state-is = ap (λ (x : Arrival). new_taken (link_state k) n x.state) arrived-is ∙ sym (pick_no made.old _ _ _ (old-as ∙ o) refl)

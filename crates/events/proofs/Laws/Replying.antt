@@ -8,24 +8,21 @@ use lib.Dec.{eqb, leb, ltb}
 use lib.ListN.{length}
 use borrow.Author.Tests.{ltb-true, lt-ltb, le-leb, lt-leb}
 use Rattle.limits.specs.declared.Limits.{Limits}
-use Rattle.limits.specs.Questions.{Answer}
-use Rattle.limits.specs.Answer.{number_of}
+use Rattle.std.specs.Prelude.{Ok}
 use Rattle.limits.specs.Limits.{sound_limits}
 use Rattle.limits.specs.Lists.{all}
-use Rattle.limits.specs.Questions.{Question, ask, first_no, Answers}
+use Rattle.limits.specs.Questions.{Question, ask, first_no}
 use Rattle.limits.specs.Tables.{capacity, put}
 use Rattle.limits.specs.Events.{reply}
 use Rattle.limits.proofs.Laws.Choice.{pick_yes, pick_no}
 use Rattle.limits.proofs.Laws.Good.{good}
-use Rattle.limits.proofs.Laws.Promise.{called-done, done-of, none-no}
-use Rattle.limits.proofs.Laws.Questions.{each, front-passed, more_stays}
+use Rattle.limits.proofs.Laws.Promise.{called-done}
+use Rattle.limits.proofs.Laws.Questions.{each, more_stays}
 use Rattle.mat.specs.View.{mat_state}
 use Rattle.pad.specs.declared.Pad.{Pad}
-use Rattle.pad.specs.declared.Replied.{Replied}
-use Rattle.pad.specs.declared.RunLength.{RunLength}
 use Rattle.pad.specs.Window.{PadState}
 use Rattle.pad.specs.Rules.{Replying, run, run_questions, reply_questions, replying}
-use Rattle.pad.specs.View.{pad_state, sound_pad, shown_replying, ReplyCall}
+use Rattle.pad.specs.View.{pad_state, sound_pad}
 use Rattle.pad.proofs.Laws.Messages.{run-most}
 use Rattle.air.specs.declared.replytable.ReplyTable.{ReplyTable}
 use Rattle.air.specs.Rules.{room_questions}
@@ -56,51 +53,42 @@ module _ {A : Type 0} (s : PadState) (space : ℕ) (ms : List A) where
       all_pass e = pick_yes _ _ _ _ (lt-ltb 0 (run s) low) (pick_yes _ _ _ _ (le-leb (16 * run s) space (omega arith)) (pick_yes _ _ _ _ e refl))
 
 -- what the run's length tells
-module _ (s : PadState) (n : RunLength) (c : Answers (run_questions s) n.answer n.count (run s) 0) (e : number_of n.answer ≡ 0) where
-  pub count-is : n.count ≡ run s
-  count-is = done-of _ _ _ _ _ c e
-
-  pub some-ready : 0 < run s
-  unfolding all
-  some-ready = ltb-true 0 (run s) (each (run_questions s) refl (none-no _ _ _ _ _ c e)).0
+pub some-ready : (s : PadState) → 0 ≡ first_no (run_questions s) → 0 < run s
+unfolding all
+some-ready s e = ltb-true 0 (run s) (each (run_questions s) refl (sym e)).0
 
 -- a run fits the window
 pub count_fits : (l : Limits) (g : sound_limits l ≡ true) (p : Pad) → sound_pad l p ≡ true → (n : ℕ) → n ≡ run (pad_state l.window p) → (n ≤ l.window) × (n ≤ 32)
 count_fits l g p s n e = let o = good l g in let m = run-most l g p s in (omega arith, omega arith)
 
 module _ (k : Link) (p : Parts k) (before after : List ℕ)
-    (z : first_no (reply_asks (pad_state k.limits.window k.pad) (length before) (air.reply_messages k.replies)) ≡ 0) (rec : Replied)
-    (c : ReplyCall k.limits k.pad before after (reply_questions (pad_state k.limits.window k.pad) (length before))
-    (replying k.limits (pad_state k.limits.window k.pad) before) rec) where
-  passes : first_no (reply_questions (pad_state k.limits.window k.pad) (length before)) ≡ 0
-  passes = front-passed (reply_questions (pad_state k.limits.window k.pad) (length before)) (room_questions 18 (air.reply_messages k.replies)) z
-
-  recorded-is : shown_replying k.limits rec after ≡ replying k.limits (pad_state k.limits.window k.pad) before
-  recorded-is = done-of _ _ _ _ _ c.answers (c.answers.number ∙ passes)
-
-  pub replies : (into : ReplyTable) (a : Answer) → number_of a ≡ 0
-      → air.ReplyHolds k.limits into (put (record { body = record { first = rec.first; last = rec.last }; life = k.limits.replylife }) (air.reply_messages k.replies))
+    (z : first_no (reply_asks (pad_state k.limits.window k.pad) (length before) (air.reply_messages k.replies)) ≡ 0)
+    (passed : Pad) (count last : ℕ) (sound : sound_pad k.limits passed ≡ true)
+    (is : record { state = pad_state k.limits.window passed; count = count; reply = record { first = k.pad.wanted; last = last }; buffer = after }
+    ≡ replying k.limits (pad_state k.limits.window k.pad) before) where
+  pub replies : (into : ReplyTable)
+      → air.ReplyHolds k.limits into (put (record { body = record { first = k.pad.wanted; last = last }; life = k.limits.replylife }) (air.reply_messages k.replies))
       → Moves k [] before after reply
       (record {
-        answer = a;
-        link = record { limits = k.limits; mat = k.mat; pad = rec.pad; datas = k.datas; replies = into };
-        counts = recorded_by rec.count;
+        answer = Ok tt;
+        link = record { limits = k.limits; mat = k.mat; pad = passed; datas = k.datas; replies = into };
+        counts = recorded_by count;
       })
   unfolding link_state
-  replies into a e d =
-      called-done (reply_asks (pad_state k.limits.window k.pad) (length before) (air.reply_messages k.replies)) _ _ _ _ (e ∙ sym z) _ _ _ e
+  replies into d =
+      called-done (reply_asks (pad_state k.limits.window k.pad) (length before) (air.reply_messages k.replies)) _ _ _ _ (sym z) _ _ _ refl
       (λ i. record {
         state =
             record {
               limits = k.limits;
               mat = mat_state k.limits.window k.mat;
-              pad = (recorded-is i).state;
+              pad = (is i).state;
               datas = data_messages k.datas;
               replies =
                   (d.1
-                  ∙ ap (λ (x : Replying). put (record { body = x.reply; life = k.limits.replylife }) (air.reply_messages k.replies)) recorded-is) i;
+                  ∙ ap (λ (x : Replying). put (record { body = x.reply; life = k.limits.replylife }) (air.reply_messages k.replies)) is) i;
             };
-        counts = recorded_by (recorded-is i).count;
-        buffer = (recorded-is i).buffer;
+        counts = recorded_by (is i).count;
+        buffer = (is i).buffer;
       })
-      (whole _ (record { limits = p.limits; mat = p.mat; pad = c.keeps.stays p.pad; datas = p.datas; replies = d.0 }))
+      (whole _ (record { limits = p.limits; mat = p.mat; pad = sound; datas = p.datas; replies = d.0 }))

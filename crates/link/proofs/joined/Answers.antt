@@ -4,4 +4,4 @@ use mathlib.Core.Path.{refl}
 use Rattle.link.proofs.joined.Goals as goal
 
 pub returns : goal.returns
-returns c = joins _ _ _ _ _ _ (arrays c.args.marks c.args.mattimers c.args.matcells c.args.held c.args.padtimers c.args.padcells c.args.datas c.args.replies) refl c.assembled.ensures c.assembled-2.ensures c.assembled-3.ensures
+returns c = joins _ _ _ _ _ _ (arrays c.args.marks c.args.mattimers c.args.matcells c.args.held c.args.padtimers c.args.padcells c.args.datas c.args.replies) refl refl c.assembled.ensures c.assembled-2.ensures

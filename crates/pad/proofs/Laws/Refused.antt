@@ -1,57 +1,41 @@
--- The questions of a reply, and what calls show that hand everything back.
+-- The questions of a reply.
 use Prim.Native.Nat.{ℕ, ◌*◌, ◌≤◌, ◌<◌}
-use mathlib.Core.Path.{◌≡◌, refl, sym, ◌∙◌, ap}
-use mathlib.Core.Bool.{true, false}
-use mathlib.Core.List.{List, [], ◌∷◌}
-use lib.Dec.{eqb, leb, ltb}
+use mathlib.Core.Path.{◌≡◌, refl, sym}
+use mathlib.Core.Bool.{Bool, true}
+use mathlib.Core.List.{[], ◌∷◌}
+use lib.Dec.{leb}
 use borrow.Author.Tests.{ltb-true, lt-ltb, le-ltb, le-leb, lt-leb}
-use Rattle.limits.specs.Questions.{Answer}
-use Rattle.limits.specs.Answer.{number_of}
+use Rattle.limits.specs.declared.answer.Refusal.{Refusal}
+use Rattle.limits.specs.Answer.{refusal_number}
 use Rattle.limits.specs.Lists.{all}
-use Rattle.limits.specs.Questions.{ask, first_no, Answers}
+use Rattle.limits.specs.Questions.{ask, first_no}
 use Rattle.limits.proofs.Laws.Choice.{pick_yes, pick_no}
-use Rattle.limits.proofs.Laws.Promise.{none-no, done-of}
+use Rattle.limits.proofs.Laws.Promise.{refusal-not-0}
 use Rattle.limits.proofs.Laws.Questions.{each, more_stays}
-use Rattle.pad.specs.declared.Pad.{Pad}
-use Rattle.pad.specs.Rules.{run, run_questions, reply_questions, not_replying}
-use Rattle.pad.specs.View.{pad_state}
+use Rattle.pad.specs.Window.{PadState}
+use Rattle.pad.specs.Rules.{run, run_questions, reply_questions}
 
--- n is the run
-module _ (w : ℕ) (p : Pad) (n : ℕ) (is : n ≡ run (pad_state w p)) where
-  ready-yes : 0 < n → ltb 0 (run (pad_state w p)) ≡ true
-  ready-yes h = ap (ltb 0) (sym is) ∙ lt-ltb 0 n h
+module _ (s : PadState) where
+  pub run-passes : 0 < run s → 0 ≡ first_no (run_questions s)
+  run-passes h = sym (pick_yes _ _ _ _ (lt-ltb 0 (run s) h) refl)
 
-  ready-no : n ≤ 0 → ltb 0 (run (pad_state w p)) ≡ false
-  ready-no h = ap (ltb 0) (sym is) ∙ le-ltb 0 n h
+  pub run_none : run s ≤ 0 → 20 ≡ first_no (run_questions s)
+  run_none h = sym (pick_no _ _ _ _ (le-ltb 0 (run s) h) refl)
 
-  pub run-passes : 0 < n → 0 ≡ first_no (run_questions (pad_state w p))
-  run-passes h = sym (pick_yes _ _ _ _ (ready-yes h) refl)
+  -- question 4 is put first; then the run's length is asked for
+  module _ (sound : Bool) where
+    pub run-found : 0 ≡ first_no (ask 4 sound ∷ run_questions s) → (sound ≡ true) × (0 < run s)
+    unfolding all
+    run-found e = let h = each (ask 4 sound ∷ run_questions s) refl (sym e) in (h.0, ltb-true 0 (run s) h.1.0)
 
-  pub run_none : n ≤ 0 → 20 ≡ first_no (run_questions (pad_state w p))
-  run_none h = sym (pick_no _ _ _ _ (ready-no h) refl)
+    module _ (space : ℕ) where
+      pub run-refused : (r : Refusal) → refusal_number r ≡ first_no (ask 4 sound ∷ run_questions s)
+          → refusal_number r ≡ first_no (ask 4 sound ∷ reply_questions s space)
+      run-refused r e = more_stays (ask 4 sound ∷ run_questions s) (refusal_number r) e (ask 21 (leb (16 * run s) space) ∷ []) (refusal-not-0 r)
 
-  module _ (space : ℕ) where
-    room : leb (16 * run (pad_state w p)) space ≡ leb (16 * n) space
-    room = ap (λ k. leb (16 * k) space) (sym is)
+      module _ (e : sound ≡ true) (h : 0 < run s) where
+        pub reply-full : space < 16 * run s → 21 ≡ first_no (ask 4 sound ∷ reply_questions s space)
+        reply-full k = sym (pick_yes _ _ _ _ e (pick_yes _ _ _ _ (lt-ltb 0 (run s) h) (pick_no _ _ _ _ (lt-leb (16 * run s) space k) refl)))
 
-    pub reply-passes : 0 < n → 16 * n ≤ space → 0 ≡ first_no (reply_questions (pad_state w p) space)
-    reply-passes h k = sym (pick_yes _ _ _ _ (ready-yes h) (pick_yes _ _ _ _ (room ∙ le-leb (16 * n) space k) refl))
-
-    pub reply-full : 0 < n → space < 16 * n → 21 ≡ first_no (reply_questions (pad_state w p) space)
-    reply-full h k = sym (pick_yes _ _ _ _ (ready-yes h) (pick_no _ _ _ _ (room ∙ lt-leb (16 * n) space k) refl))
-
--- what the answer of a run says of the reply's questions
-module _ (w : ℕ) (p : Pad) (a : Answer) (n : ℕ) (r : Answers (run_questions (pad_state w p)) a n (run (pad_state w p)) 0) where
-  pub run-found : number_of a ≡ 0 → (0 < run (pad_state w p)) × (n ≡ run (pad_state w p))
-  unfolding all
-  run-found e =
-      let z = none-no (run_questions (pad_state w p)) a n (run (pad_state w p)) 0 r e in
-      (ltb-true 0 (run (pad_state w p)) (each (run_questions (pad_state w p)) refl z).0, done-of (run_questions (pad_state w p)) a n (run (pad_state w p)) 0 r e)
-
-  pub run-refused : (space : ℕ) → eqb (number_of a) 0 ≡ false → number_of a ≡ first_no (reply_questions (pad_state w p) space)
-  run-refused space e = more_stays (run_questions (pad_state w p)) (number_of a) r.number (ask 21 (leb (16 * run (pad_state w p)) space) ∷ []) e
-
-pub not-replied : (w : ℕ) (p after : Pad) (first last : ℕ) → after ≡ p → first ≡ 0 → last ≡ 0 → (count : ℕ) (buffer : List ℕ) → count ≡ 0
-    → record { state = pad_state w after; count = count; reply = record { first = first; last = last }; buffer = buffer } ≡ not_replying (pad_state w p) buffer
-not-replied w p after first last e f t count buffer n =
-    λ i. record { state = pad_state w (e i); count = n i; reply = record { first = f i; last = t i }; buffer = buffer }
+        pub reply-passes : 16 * run s ≤ space → 0 ≡ first_no (ask 4 sound ∷ reply_questions s space)
+        reply-passes k = sym (pick_yes _ _ _ _ e (pick_yes _ _ _ _ (lt-ltb 0 (run s) h) (pick_yes _ _ _ _ (le-leb (16 * run s) space k) refl)))

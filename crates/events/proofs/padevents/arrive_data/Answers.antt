@@ -12,7 +12,7 @@ use Rattle.limits.proofs.Laws.Questions.{more_stays}
 use Rattle.limits.proofs.Laws.Messages.{message-low, message-legal}
 use Rattle.pad.specs.Rules.{arrival}
 use Rattle.pad.specs.View.{pad_of, pad_state}
-use Rattle.pad.proofs.Laws.Calls.{arrive-new, arrive-old}
+use Rattle.pad.proofs.Laws.Calls.{arrival-new, arrival-old}
 use Rattle.air.specs.Rules.{place_questions}
 use Rattle.air.specs.Data.{data_table, data_messages}
 use Rattle.air.specs.Replies.{reply_table, reply_messages}
@@ -47,11 +47,11 @@ take_old-requires c = let u = c.find_data-found in let t = data_table c.args.n.d
 
 pub returns-then-in_window : goal.returns-then-in_window
 returns-then-in_window c = let u = c.find_data-found in let t = data_table c.args.n.datas c.args.datas.now in let told = c.in-Ok.is in let sound = data-found-sound c.args.l t c.args.p u.result u.ensures (ap number_of told) c.requires.2 in
-    let near = ltb-true _ _ (sym c.in_window.ensures ∙ c.if-in_window.true) in
-    λ marks mattimers matcells supply b h. let p = parts _ h in let held = c.hold.ensures c.args.n.wanted p.pad (message-legal _ _ _ sound) near in
+    let near = sym c.in_window.ensures ∙ c.if-in_window.true in
+    λ marks mattimers matcells supply b h. let p = parts _ h in let held = c.hold.ensures c.args.n.wanted p.pad (message-legal _ _ _ sound) (ltb-true _ _ near) in
     let st = stayed-as _ _ _ _ _ _ c.with_datas.ensures c.stays-then-in_window.ensures in
-    new-arrives _ p _ u.result u.ensures (ap number_of told) _ (arrive-new _ _ _ _ _ _ refl near held) _ supply b refl (new-taken _ p _ _ _ (c.remove_data-left.ensures c.args.l p.datas) _ held.0 (st.0 ∙ told, st.1, st.2))
+    new-arrives _ p _ u.result u.ensures (ap number_of told) _ (arrival-new c.args.l (pad_of c.args.n.wanted c.args.held.now c.args.padtimers.now c.args.padcells.now) _ _ near held.1) _ supply b refl (new-taken _ p _ _ _ (c.remove_data-left.ensures c.args.l p.datas) _ held.0 (st.0 ∙ told, st.1, st.2))
 
 pub returns-else-in_window : goal.returns-else-in_window
 returns-else-in_window c = let u = c.find_data-found in let told = c.in-Ok.is in
-    λ marks mattimers matcells supply b h. old-arrives _ (parts _ h) _ u.result u.ensures (ap number_of told) _ (arrive-old _ _ _ _ (sym c.in_window.ensures ∙ c.if-in_window.false)) refl _ supply b (c.take_old.ensures marks c.args.held.now mattimers matcells c.args.padtimers.now c.args.padcells.now b h)
+    λ marks mattimers matcells supply b h. old-arrives _ (parts _ h) _ u.result u.ensures (ap number_of told) _ (arrival-old c.args.l (pad_of c.args.n.wanted c.args.held.now c.args.padtimers.now c.args.padcells.now) _ (sym c.in_window.ensures ∙ c.if-in_window.false)) refl _ supply b (c.take_old.ensures marks c.args.held.now mattimers matcells c.args.padtimers.now c.args.padcells.now b h)

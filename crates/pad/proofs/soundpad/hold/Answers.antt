@@ -30,12 +30,12 @@ write-requires c = let h = place-fits _ _ _ c.requires.0 c.slot-at.ensures in om
 pub returns : goal.returns
 returns c = let b = c in
     let at = c.slot-at in
-    let n : length b.args.row ≡ 16 = search rules in
+    let n : length b.args.«data».row ≡ 16 = search rules in
     let g = good _ b.requires.0 in
     let o = c.set_span.ensures ∙ span-one _ _ true b.args.held.now (at-below _ _ _ g.window-low at.ensures) in
     λ wanted s legal h.
     let p = pad_of wanted b.args.held.now b.args.timers.now b.args.cells.now in
     let z : Sized p = record { held = search rules; timers = search rules; cells = search rules } in
     let after : Pad = pad_of wanted c.set_span.new.marks c.set.new.xs c.write.new.cells in
-    let e : after ≡ stored p at.result b.args.l.replywait b.args.row = rw (o, c.set.ensures, c.write.ensures) in
+    let e : after ≡ stored p at.result b.args.l.replywait b.args.«data».row = rw (o, c.set.ensures, c.write.ensures) in
     row-held _ p _ _ _ g (facts _ p s) z b.requires.1 n at.ensures after e legal h

@@ -3,9 +3,7 @@ use native.Mathlib.Omega.{arith}
 use native.Mathlib.Nat.{mod-lt}
 use Rattle.pad.proofs.Laws.Run.{run_is}
 use Rattle.pad.proofs.Laws.Refused.{run-passes, run_none}
-use Rattle.limits.proofs.Laws.Promise.{answers-done, answers-refused}
-use Rattle.pad.specs.View.{pad_of}
-use mathlib.Core.Path.{refl}
+use Rattle.pad.specs.View.{pad_of, pad_state}
 use Rattle.pad.proofs.soundpad.run_length.Goals as goal
 
 pub slot-requires : goal.slot-requires
@@ -14,14 +12,14 @@ slot-requires c = let g = good _ c.requires.0 in omega arith
 pub ready_run-count-requires : goal.ready_run-count-requires
 ready_run-count-requires c = let g = good _ c.requires.0 in let m = mod-lt c.args.wanted {m = c.args.l.window} (omega arith) in omega arith
 
-pub returns-then-count-gt0 : goal.returns-then-count-gt0
-returns-then-count-gt0 c = let b = c in λ cells.
+pub returns-then-count-eq0 : goal.returns-then-count-eq0
+returns-then-count-eq0 c = let b = c in λ cells.
     let p = pad_of b.args.wanted b.args.held.now b.args.timers.now cells in
     let e = run_is _ p (good _ b.requires.0).window-low _ _ c.slot.ensures c.ready_run-count.ensures in
-    answers-done _ _ _ _ _ (run-passes _ p _ e c.if-count-gt0.true) refl e
+    record { number = run_none (pad_state b.args.l.window p) (omega (arith, e, c.if-count-eq0.true)); value = tt }
 
-pub returns-else-count-gt0 : goal.returns-else-count-gt0
-returns-else-count-gt0 c = let b = c in λ cells.
+pub returns : goal.returns
+returns c = let b = c in λ cells.
     let p = pad_of b.args.wanted b.args.held.now b.args.timers.now cells in
     let e = run_is _ p (good _ b.requires.0).window-low _ _ c.slot.ensures c.ready_run-count.ensures in
-    answers-refused _ _ _ _ _ (run_none _ p _ e c.if-count-gt0.false) refl refl
+    record { number = run-passes (pad_state b.args.l.window p) (omega (arith, e, c.if-count-eq0.false)); value = e }

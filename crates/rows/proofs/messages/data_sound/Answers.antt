@@ -9,10 +9,10 @@ use Rattle.rows.proofs.messages.data_sound.Goals as goal
 pub overflow_mul-l : goal.overflow_mul-l
 overflow_mul-l c = let g = good _ c.requires in omega arith
 
-pub returns-then-number-l : goal.returns-then-number-l
+pub returns-then-data-l : goal.returns-then-data-l
 unfolding sound_data
-returns-then-number-l c = c.legal_row.ensures ∙ and-goes-on _ _ (lt-ltb _ _ c.if-number-l.true)
+returns-then-data-l c = c.legal_row.ensures ∙ and-goes-on _ _ (lt-ltb _ _ c.if-data-l.true)
 
-pub returns-else-number-l : goal.returns-else-number-l
+pub returns-else-data-l : goal.returns-else-data-l
 unfolding sound_data
-returns-else-number-l c = and-stops _ _ (le-ltb _ _ c.if-number-l.false)
+returns-else-data-l c = and-stops _ _ (le-ltb _ _ c.if-data-l.false)
