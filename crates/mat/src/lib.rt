@@ -106,10 +106,8 @@ pub fn fresh() -> Mat
 pub fn sound(l: Limits, m: Mat) -> bool
     ensures { result ≡ (sound_limits l && sound_mat l m) }
 {
-    let marks = m.marks;
-    let timers = m.timers;
-    let cells = m.cells;
-    limits::sound_limits(l) && soundmat::mat_sound(l, m.oldest, m.next, &marks, &timers, &cells)
+    limits::sound_limits(l)
+        && soundmat::mat_sound(l, m.oldest, m.next, &m.marks, &m.timers, &m.cells)
 }
 
 // Question 4 of limits, a mat and a message.

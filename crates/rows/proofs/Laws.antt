@@ -1,3 +1,4 @@
 pub mod Changed
 pub mod Cells
 pub mod Places
+pub mod Rounds

@@ -10,17 +10,11 @@ use mathlib.Core.Path.{refl, sym, ◌∙◌, ap}
 use native.Mathlib.Omega.{arith}
 use Rattle.mat.proofs.soundmat.acknowledge.Goals as goal
 
-pub overflow_mul-w : goal.overflow_mul-w
-overflow_mul-w c = omega (arith, good _ c.requires.0)
-
 pub gap-count-requires : goal.gap-count-requires
 gap-count-requires c = let r = reply-facts _ _ c.requires.4 in omega (arith, r, good _ c.requires.0)
 
 pub overflow_add-count : goal.overflow_add-count
 overflow_add-count c = let r = reply-facts _ _ c.requires.4 in let g = good _ c.requires.0 in let h = gap_below _ _ _ _ c.gap-count.ensures (omega (arith, r)) (omega (arith, r)) in omega (arith, g, h)
-
-pub overflow_mul-w-2 : goal.overflow_mul-w-2
-overflow_mul-w-2 c = omega (arith, good _ c.requires.0)
 
 pub gap-requires : goal.gap-requires
 gap-requires c = let r = reply-facts _ _ c.requires.4 in omega (arith, r, good _ c.requires.0, c.requires.1)
@@ -28,12 +22,6 @@ gap-requires c = let r = reply-facts _ _ c.requires.4 in omega (arith, r, good _
 pub overflow_add-gap : goal.overflow_add-gap
 overflow_add-gap c = let r = reply-facts _ _ c.requires.4 in
     let h = gap_below _ _ _ _ c.gap-count.ensures (omega (arith, r)) (omega (arith, r)) in let k = gap_below _ _ _ _ c.gap.ensures (omega (arith, r, c.requires.1)) (omega (arith, r, c.requires.1)) in omega (arith, good _ c.requires.0, h, k)
-
-pub overflow_mul-w-3 : goal.overflow_mul-w-3
-overflow_mul-w-3 c = omega (arith, good _ c.requires.0)
-
-pub gap-requires-2 : goal.gap-requires-2
-gap-requires-2 c = let r = reply-facts _ _ c.requires.4 in omega (arith, r, good _ c.requires.0, c.requires.1, c.requires.2)
 
 pub mark_off-requires : goal.mark_off-requires
 mark_off-requires c = let r = reply-facts _ _ c.requires.4 in

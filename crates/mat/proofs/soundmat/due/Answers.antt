@@ -6,7 +6,6 @@ use Rattle.limits.proofs.Laws.Ring.{step_fits}
 use Rattle.limits.proofs.Laws.Choice.{pick_yes, pick_no}
 use Rattle.limits.proofs.Laws.Good.{good}
 use Rattle.limits.specs.Answer.{number_of}
-use Rattle.rows.proofs.Laws.Places.{place-below}
 use borrow.Author.Tests.{eq-eqb, ne_eqb}
 use lib.Dec.{eqb}
 use mathlib.Core.Bool.{true, false}
@@ -15,30 +14,9 @@ use Prim.Native.Nat.{◌*◌}
 use native.Mathlib.Omega.{arith}
 use Rattle.mat.proofs.soundmat.due.Goals as goal
 
-pub overflow_mul-w : goal.overflow_mul-w
-overflow_mul-w c = omega (arith, good _ c.requires.0)
-
-pub gap-requires : goal.gap-requires
-gap-requires c = omega (arith, good _ c.requires.0, c.requires.1, c.requires.2)
-
-pub overflow_mul-w-then-k-gap : goal.overflow_mul-w-then-k-gap
-overflow_mul-w-then-k-gap c = omega (arith, good _ c.requires.0)
-
-pub forward-number-requires : goal.forward-number-requires
-forward-number-requires c = omega (arith, good _ c.requires.0, c.requires.1, c.requires.3, c.gap.ensures, c.if-k-gap.true)
-
 pub slot-at-requires : goal.slot-at-requires
 slot-at-requires c = let g = good _ c.requires.0 in
     omega (arith, g, c.forward-number.ensures, step_fits (2 * c.args.l.window) c.args.oldest c.args.k (omega (arith, g)))
-
-pub bounds-marks-at : goal.bounds-marks-at
-bounds-marks-at c = let g = good _ c.requires.0 in omega (arith, g, c.slot-at.ensures, place-below _ c.forward-number.result g.window-low)
-
-pub offset_bounds-timers-at : goal.offset_bounds-timers-at
-offset_bounds-timers-at c = let g = good _ c.requires.0 in omega (arith, g, c.slot-at.ensures, place-below _ c.forward-number.result g.window-low)
-
-pub bounds-timers-at : goal.bounds-timers-at
-bounds-timers-at c = let g = good _ c.requires.0 in omega (arith, g, c.slot-at.ensures, place-below _ c.forward-number.result g.window-low)
 
 pub returns-then-marks-at : goal.returns-then-marks-at
 returns-then-marks-at c = λ cells. let m = mat_of c.args.oldest c.args.next c.args.marks.now c.args.timers.now cells in

@@ -2,20 +2,12 @@ use Rattle.mat.specs.View.{mat_of}
 use Rattle.mat.proofs.Laws.Resend.{room-yes, room-no}
 use Rattle.limits.proofs.Laws.Promise.{answers-done, answers-refused}
 use Rattle.limits.proofs.Laws.Choice.{pick_yes, pick_no}
-use Rattle.limits.proofs.Laws.Good.{good}
 use Rattle.limits.specs.Answer.{number_of}
 use Rattle.limits.specs.Cells.{legal_row}
 use borrow.Author.Tests.{le-leb, lt-leb}
 use lib.Dec.{eqb}
 use mathlib.Core.Path.{refl, sym, ◌∙◌, ap}
-use native.Mathlib.Omega.{arith}
 use Rattle.mat.proofs.soundmat.next_row.Goals as goal
-
-pub overflow_mul-w : goal.overflow_mul-w
-overflow_mul-w c = omega (arith, good _ c.requires.0)
-
-pub gap-requires : goal.gap-requires
-gap-requires c = omega (arith, good _ c.requires.0, c.requires.1)
 
 pub returns-then-legal_row : goal.returns-then-legal_row
 returns-then-legal_row c = λ marks timers cells. let m = mat_of c.args.oldest c.args.next marks timers cells in
