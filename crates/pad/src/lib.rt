@@ -101,10 +101,7 @@ pub fn fresh() -> Pad
 pub fn sound(l: Limits, p: Pad) -> bool
     ensures { result ≡ (sound_limits l && sound_pad l p) }
 {
-    let held = p.held;
-    let timers = p.timers;
-    let cells = p.cells;
-    limits::sound_limits(l) && soundpad::pad_sound(l, p.wanted, &held, &timers, &cells)
+    limits::sound_limits(l) && soundpad::pad_sound(l, p.wanted, &p.held, &p.timers, &p.cells)
 }
 
 // Question 4 of limits, a pad and a message.
@@ -168,9 +165,7 @@ pub fn run_length(l: Limits, p: Pad) -> RunLength
         result.answer result.count (run (pad_state l.window p)) 0 }
 {
     if sound(l, p) {
-        let held = p.held;
-        let timers = p.timers;
-        soundpad::run_length(l, p.wanted, &held, &timers)
+        soundpad::run_length(l, p.wanted, &p.held, &p.timers)
     } else {
         RunLength {
             answer: Answer::Unsound,
@@ -200,20 +195,18 @@ fn recorded(l: Limits, p: Pad, buffer: &mut [u16]) -> Replied
         (replying l (pad_state l.window p) buffer.old) result }
 {
     let first = p.wanted;
-    let mut held = p.held;
-    let timers = p.timers;
-    let cells = p.cells;
-    let run = soundpad::run_length(l, first, &held, &timers);
+    let run = soundpad::run_length(l, first, &p.held, &p.timers);
     let answer = run.answer;
     let Answer::Done = answer else {
         return not_replied(p, answer);
     };
     let count = run.count;
     if 16 * count <= buffer.len() {
-        let passed = soundpad::record_run(l, first, &mut held, &cells, count, buffer);
+        let mut held = p.held;
+        let passed = soundpad::record_run(l, first, &mut held, &p.cells, count, buffer);
         Replied {
             answer,
-            pad: assembled(passed.wanted, held, timers, cells),
+            pad: assembled(passed.wanted, held, p.timers, p.cells),
             count,
             first,
             last: passed.last,

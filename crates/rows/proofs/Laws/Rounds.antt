@@ -7,10 +7,11 @@ use native.Mathlib.Omega.{arith}
 use lib.ListN.{length, get_or, take, drop, length-take}
 use lib.Seq.{get_or-take}
 use Rattle.std.proofs.lemmas.List.Sums.{prefix_len-le-length}
-use Rattle.std.specs.List.{prefix_len}
+use Rattle.std.specs.List.{prefix_len, zip}
+use Rattle.std.proofs.lemmas.Slice.Zip.{length-zip, get_or-zip}
 use Rattle.limits.specs.Lists.{tab, leading}
 use Rattle.limits.specs.Questions.{pick}
-use Rattle.limits.proofs.Laws.Lists.{part-tab, take-tab, is-tab}
+use Rattle.limits.proofs.Laws.Lists.{part-tab, take-tab, is-tab, length-tab, get_or-tab}
 use Rattle.rows.proofs.Laws.Places.{round-tab}
 
 cond-pick : {A : Type 0} (b : Bool) (x y : A) → cond b x y ≡ pick b x y
@@ -41,3 +42,10 @@ module _ {A : Type 0} where
 
   pub prefix-most : (p : A → Bool) (n : ℕ) (xs : List A) → prefix_len p (take n xs) ≤ n
   prefix-most p n xs = omega (arith, prefix_len-le-length p (take n xs), length-take n xs)
+
+-- two arrays beside one another
+pub zip-tab : {A B : Type 0} (n : ℕ) (f : ℕ → A) (g : ℕ → B) → zip (tab n f) (tab n g) ≡ tab n (λ i. (f i, g i))
+zip-tab n f g =
+    is-tab (zip (tab n f) (tab n g)) n _ (f 0, g 0) (length-zip (tab n f) (tab n g) ∙ (let a = length-tab n f in let b = length-tab n g in omega arith))
+    (λ i h. let a = length-tab n f in let b = length-tab n g in
+    get_or-zip (tab n f) (tab n g) i (f 0, g 0) (omega arith) (omega arith) ∙ ap₂ (λ x y. (x, y)) (get_or-tab n f i (f 0) h) (get_or-tab n g i (g 0) h))
