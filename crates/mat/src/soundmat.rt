@@ -2,9 +2,8 @@
 // the numbers and arrays that it needs; arrays are lent and change in place.
 #![tactic(auto, using(limits::proofs::Laws::Good::good))]
 
-ghost use Rattle.std.specs.Prelude.{◌≡◌, Bool, true, false, not, ◌&&◌, List, ◌++◌, ℕ, ◌+◌, ◌-◌, ◌*◌, ◌%◌, ◌<◌, ◌≤◌, leb, get_or, take, drop, replicate};
-ghost use Rattle.std.specs.List.{prefix_len};
-ghost use Rattle.limits.specs.Lists.{tab, all};
+ghost use Rattle.std.specs.Prelude.{◌≡◌, Bool, true, false, not, ◌&&◌, List, ℕ, ◌+◌, ◌*◌, ◌%◌, ◌<◌, ◌≤◌, leb, get_or, take, replicate};
+ghost use Rattle.limits.specs.Lists.{tab, all, leading};
 ghost use Rattle.limits.specs.Cells.{row_at, legal_row};
 ghost use Rattle.limits.specs.Questions.{Answers};
 ghost use Rattle.limits.specs.Limits.{sound_limits};
@@ -226,15 +225,15 @@ pub fn again(l: Limits, number: usize, timers: &mut [u16; 32], cells: &[u16; 512
 
 // How many of `most` numbers from place `from` on, round the ring, are marked, up to the first that is not.
 fn marked_run(marks: &[bool; 32], w: usize, from: usize, most: usize) -> usize
-    requires { (w ≤ 32) × (from < w) }
-    ensures { result ≡ prefix_len (λ (b : Bool). b) (take most (take (w - from) (drop from marks.now) ++ take from marks.now)) }
+    requires { (w ≤ 32) × (from < w) × (most ≤ w) }
+    ensures { result ≡ leading (λ (b : Bool). b) (tab most (λ i. get_or marks.now ((from + i) % w) false)) }
 {
-    marks[from..w]
-        .iter()
-        .chain(marks[..from].iter())
-        .take(most)
-        .take_while(|m| **m)
-        .count()
+    for k in 0..most {
+        if !marks[ring::slot(w, from + k)] {
+            return k;
+        }
+    }
+    most
 }
 
 // The `count` numbers from `first` on are marked, and oldest passes every marked number, whose marks are taken away.

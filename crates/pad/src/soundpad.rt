@@ -2,9 +2,8 @@
 // the numbers and arrays that it needs; arrays are lent and change in place.
 #![tactic(auto, using(limits::proofs::Laws::Good::good))]
 
-ghost use Rattle.std.specs.Prelude.{◌≡◌, Bool, true, false, ◌&&◌, List, ◌++◌, ℕ, ◌+◌, ◌-◌, ◌*◌, ◌<◌, ◌≤◌, ltb, length, get_or, take, drop, zip, IsTrue, ◌↔◌};
-ghost use Rattle.std.specs.List.{prefix_len};
-ghost use Rattle.limits.specs.Lists.{tab, all};
+ghost use Rattle.std.specs.Prelude.{◌≡◌, Bool, true, false, ◌&&◌, List, ◌++◌, ℕ, ◌+◌, ◌*◌, ◌%◌, ◌<◌, ◌≤◌, ltb, length, get_or, drop, IsTrue, ◌↔◌};
+ghost use Rattle.limits.specs.Lists.{tab, all, leading, joined};
 ghost use Rattle.limits.specs.Cells.{row_at, legal_row};
 ghost use Rattle.limits.specs.Questions.{pick, Answers};
 ghost use Rattle.limits.specs.Limits.{sound_limits};
@@ -99,15 +98,16 @@ pub fn hold(
 // How many rows from place `from` on, round the ring, are ready.
 fn ready_run(held: &[bool; 32], timers: &[u16; 32], w: usize, from: usize) -> usize
     requires { (w ≤ 32) × (from < w) }
-    ensures { result
-        ≡ prefix_len (λ p. p.0 && ltb 0 p.1)
-        (zip (take (w - from) (drop from held.now) ++ take from held.now) (take (w - from) (drop from timers.now) ++ take from timers.now)) }
+    ensures { result ≡ leading (λ (b : Bool). b)
+        (tab w (λ i. get_or held.now ((from + i) % w) false && ltb 0 (get_or timers.now ((from + i) % w) 0))) }
 {
-    let held = held[from..w].iter().chain(held[..from].iter());
-    let timers = timers[from..w].iter().chain(timers[..from].iter());
-    held.zip(timers)
-        .take_while(|(held, timer)| **held && 0 < **timer)
-        .count()
+    for k in 0..w {
+        let at = ring::slot(w, from + k);
+        if !(held[at] && 0 < timers[at]) {
+            return k;
+        }
+    }
+    w
 }
 
 // The length of the run at wanted: 20.
@@ -131,18 +131,16 @@ pub fn run_length(l: Limits, wanted: usize, held: &[bool; 32], timers: &[u16; 32
     }
 }
 
-// Writes `count` rows from place `from` on, round the ring, to the front of `buffer`: those up to the ring's end and those from
-// place 0.
+// Writes `count` rows from place `from` on, round the ring, to the front of `buffer`.
 fn write_run(buffer: &mut [u16], cells: &[u16; 512], w: usize, from: usize, count: usize)
     requires { (w ≤ 32) × (from < w) × (count ≤ w) × (16 * count ≤ length buffer.old) }
-    ensures { (let over = from + count - w in
-        buffer.new
-        ≡ take (16 * (count - over)) (drop (16 * from) cells.now) ++ take (16 * over) cells.now ++ drop (16 * count) buffer.old) }
+    ensures { buffer.new
+        ≡ joined (tab count (λ i. row_at cells.now ((from + i) % w))) ++ drop (16 * count) buffer.old }
 {
-    let over = (from + count).saturating_sub(w);
-    let first = count - over;
-    buffer[..16 * first].copy_from_slice(&cells[16 * from..16 * (from + first)]);
-    buffer[16 * first..16 * count].copy_from_slice(&cells[..16 * over]);
+    for k in 0..count {
+        let row = rows::load(cells, ring::slot(w, from + k));
+        rows::write(buffer, 16 * k, row);
+    }
 }
 
 // The run of `count` rows at wanted is recorded and passed.

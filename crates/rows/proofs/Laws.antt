@@ -1,4 +1,3 @@
 pub mod Changed
 pub mod Cells
 pub mod Places
-pub mod Rounds

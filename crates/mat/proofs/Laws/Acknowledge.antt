@@ -89,6 +89,10 @@ module _ (w : ℕ) (m : Mat) (start count : ℕ) (low : 1 ≤ w) (high : w ≤ 3
       (λ i h. ap₂ (λ xs p. get_or xs p false) (s ∙ ap (λ x. span_set w x count true m.marks) a) (ap (λ x. (x + i) % w) q ∙ mod-add-mod m.oldest w i))
       ∙ sym run_is
 
+-- at most all that were looked at were counted
+pub run-most : (passed out : ℕ) (f : ℕ → Bool) → passed ≡ leading (λ (b : Bool). b) (tab out f) → passed ≤ out
+run-most passed out f e = let h = leading-most (λ (b : Bool). b) (tab out f) in let k = length-tab out f in omega arith
+
 -- a mark after the front was passed
 module _ (w : ℕ) (m : Mat) (marks : List Bool) (passed : ℕ) (low : 1 ≤ w) (fits : passed ≤ w) (long : w ≤ length marks) where
   place-on : (k : ℕ) → (step (2 * w) m.oldest passed + k) % w ≡ (m.oldest + (passed + k)) % w

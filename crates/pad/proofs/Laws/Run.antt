@@ -1,19 +1,16 @@
 -- Laws on the run of rows at wanted.
-use Prim.Native.Nat.{ℕ, ◌+◌, ◌-◌, ◌%◌, ◌≤◌}
-use mathlib.Core.Path.{◌≡◌, sym, ◌∙◌, ap, ap₂}
-use mathlib.Core.Bool.{true, false, ◌&&◌}
-use mathlib.Core.List.{◌++◌, map}
+use Prim.Native.Nat.{ℕ, ◌+◌, ◌%◌, ◌≤◌}
+use mathlib.Core.Path.{◌≡◌, sym, ◌∙◌, ap}
+use mathlib.Core.Bool.{Bool, true, false, ◌&&◌}
+use mathlib.Core.List.{map}
 use native.Mathlib.Omega.{arith}
 use native.Mathlib.Nat.{mod-add-mod}
 use lib.Dec.{ltb}
-use lib.ListN.{length, get_or, take, drop}
+use lib.ListN.{get_or, take}
 use Rattle.limits.specs.Cells.{row_at}
 use Rattle.limits.specs.Lists.{tab, leading, joined}
 use Rattle.limits.specs.Ring.{place}
 use Rattle.limits.proofs.Laws.Lists.{length-tab, tab-ext, take-tab, map-tab, leading_at, leading-most, leading-agree}
-use Rattle.rows.proofs.Laws.Places.{at-below}
-use Rattle.rows.proofs.Laws.Rounds.{prefix-leading, round-slices, zip-tab}
-use Rattle.std.specs.List.{prefix_len, zip}
 use Rattle.pad.specs.declared.Pad.{Pad}
 use Rattle.pad.specs.Window.{ready, contents}
 use Rattle.pad.specs.Rules.{run}
@@ -29,17 +26,13 @@ module _ (w : ℕ) (p : Pad) (h : 1 ≤ w) where
   unfolding pad_state
   run-most = let m = leading-most ready (tab w (λ i. slot_at p ((p.wanted + i) % w))) in let l = length-tab w (λ i. slot_at p ((p.wanted + i) % w)) in omega arith
 
-  -- counted on the arrays, from the place of wanted to the ring's end and from place 0
-  pub run_is : (from r : ℕ) → w ≤ length p.held → w ≤ length p.timers → from ≡ place w p.wanted
-      → r ≡ prefix_len (λ q. q.0 && ltb 0 q.1) (zip (take (w - from) (drop from p.held) ++ take from p.held) (take (w - from) (drop from p.timers) ++ take from p.timers))
+  pub run_is : (from r : ℕ) → from ≡ place w p.wanted
+      → r ≡ leading (λ (b : Bool). b) (tab w (λ i. get_or p.held ((from + i) % w) false && ltb 0 (get_or p.timers ((from + i) % w) 0)))
       → r ≡ run (pad_state w p)
   unfolding pad_state
-  run_is from r long wide e q =
-      let b = at-below w p.wanted from h e in
+  run_is from r e q =
       q
-      ∙ prefix-leading (λ q. q.0 && ltb 0 q.1) _
-      ∙ ap (leading (λ q. q.0 && ltb 0 q.1)) (ap₂ zip (round-slices w from p.held false b long) (round-slices w from p.timers 0 b wide) ∙ zip-tab w _ _)
-      ∙ leading-agree (λ q. q.0 && ltb 0 q.1) ready w _ (λ i. slot_at p ((p.wanted + i) % w))
+      ∙ leading-agree (λ b. b) ready w _ (λ i. slot_at p ((p.wanted + i) % w))
       (λ i k. ap (λ at. get_or p.held at false && ltb 0 (get_or p.timers at 0)) (ap (λ a. (a + i) % w) e ∙ mod-add-mod p.wanted w i)
       ∙ sym (slot-ready p ((p.wanted + i) % w)))
 

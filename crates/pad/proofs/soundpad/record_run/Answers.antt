@@ -2,12 +2,7 @@ use Rattle.limits.proofs.Laws.Good.{good}
 use Rattle.pad.proofs.Laws.Passing.{passed, run-recorded}
 use Rattle.pad.specs.declared.Pad.{Pad}
 use Rattle.pad.specs.View.{pad_of}
-use Rattle.pad.proofs.Laws.Joined.{rows-round}
-use Rattle.rows.proofs.Laws.Places.{at-below}
-use lib.ListN.{drop}
-use mathlib.Core.List.{◌++◌}
-use Prim.Native.Nat.{◌*◌}
-use mathlib.Core.Path.{◌≡◌, ◌∙◌, ap}
+use mathlib.Core.Path.{◌≡◌}
 use Rattle.pad.proofs.soundpad.record_run.Goals as goal
 
 pub returns : goal.returns
@@ -17,6 +12,4 @@ returns c = let b = c in
     let p = pad_of b.args.wanted b.args.held.now timers b.args.cells.now in
     let after : Pad = pad_of c.forward.result c.set_span.new.marks timers b.args.cells.now in
     let e : after ≡ passed b.args.l p at.result b.args.count = rw (c.forward.ensures, c.set_span.ensures) in
-    let g = good _ b.requires.0 in
-    let w = c.write_run.ensures ∙ ap (◌++ drop (16 * b.args.count) b.args.buffer.now) (rows-round _ _ _ b.args.cells.now (at-below _ _ _ g.window-low at.ensures) b.requires.3) in
-    run-recorded _ p _ _ g at.ensures b.requires.3 after e _ _ _ c.forward-2.ensures w s q
+    run-recorded _ p _ _ (good _ b.requires.0) at.ensures b.requires.3 after e _ _ _ c.forward-2.ensures c.write_run.ensures s q

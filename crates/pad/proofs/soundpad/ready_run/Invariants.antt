@@ -1,0 +1,6 @@
+use Rattle.std.proofs.Common.{◌≡◌, ℕ, ◌+◌, ◌%◌, ◌<◌, true, false, get_or, ◌&&◌}
+use lib.Dec.{ltb}
+use Rattle.pad.proofs.soundpad.ready_run.Given as goal
+
+abbrev pub invariant-loop-k : goal.invariant-loop-k
+invariant-loop-k l = (j : ℕ) → j < l.k → (get_or l.held ((l.from + j) % l.w) false && ltb 0 (get_or l.timers ((l.from + j) % l.w) 0)) ≡ true
