@@ -225,13 +225,15 @@ pub fn again(l: Limits, number: usize, timers: &mut [u16; 32], cells: &[u16; 512
 
 // How many of `most` numbers from place `from` on, round the ring, are marked, up to the first that is not.
 fn marked_run(marks: &[bool; 32], w: usize, from: usize, most: usize) -> usize
-    requires { (w ≤ 32) × (from < w) × (most ≤ w) }
+    requires { (w ≤ 32) × (from < w) }
     ensures { result ≡ leading (λ (b : Bool). b) (tab most (λ i. get_or marks.now ((from + i) % w) false)) }
 {
+    let mut at = from;
     for k in 0..most {
-        if !marks[ring::slot(w, from + k)] {
+        if !marks[at] {
             return k;
         }
+        at = rows::after(w, at);
     }
     most
 }

@@ -101,11 +101,12 @@ fn ready_run(held: &[bool; 32], timers: &[u16; 32], w: usize, from: usize) -> us
     ensures { result ≡ leading (λ (b : Bool). b)
         (tab w (λ i. get_or held.now ((from + i) % w) false && ltb 0 (get_or timers.now ((from + i) % w) 0))) }
 {
+    let mut at = from;
     for k in 0..w {
-        let at = ring::slot(w, from + k);
         if !(held[at] && 0 < timers[at]) {
             return k;
         }
+        at = rows::after(w, at);
     }
     w
 }
@@ -137,9 +138,11 @@ fn write_run(buffer: &mut [u16], cells: &[u16; 512], w: usize, from: usize, coun
     ensures { buffer.new
         ≡ joined (tab count (λ i. row_at cells.now ((from + i) % w))) ++ drop (16 * count) buffer.old }
 {
+    let mut at = from;
     for k in 0..count {
-        let row = rows::load(cells, ring::slot(w, from + k));
+        let row = rows::load(cells, at);
         rows::write(buffer, 16 * k, row);
+        at = rows::after(w, at);
     }
 }
 

@@ -2,4 +2,8 @@ use Rattle.std.proofs.Common.{◌≡◌, ℕ, ◌+◌, ◌%◌, ◌<◌, true, f
 use Rattle.mat.proofs.soundmat.marked_run.Given as goal
 
 abbrev pub invariant-loop-k : goal.invariant-loop-k
-invariant-loop-k l = (j : ℕ) → j < l.k → get_or l.marks ((l.from + j) % l.w) false ≡ true
+invariant-loop-k l = record {
+  place : l.at ≡ (l.from + l.k) % l.w;
+  below : l.at < l.w;
+  marked : (j : ℕ) → j < l.k → get_or l.marks ((l.from + j) % l.w) false ≡ true;
+}
