@@ -11,7 +11,7 @@ ghost use Rattle.mat.specs.View.{mat_of, mat_state, fresh_mat, sound_mat, SendCa
 pub mod soundmat;
 
 use limits::Limits;
-use limits::answer::Answer;
+use limits::answer::Refusal;
 
 // `oldest` and `next` are numbers modulo 2w: the first unacknowledged row and the one to be sent. Row m stands at place m mod w,
 // beside its mark (acknowledged) and its resend timer (retransmission timer).
@@ -76,7 +76,7 @@ pub fn assembled(
 // `number` and `row` are the message to put in the data table.
 #[derive(Clone, Copy)]
 pub struct Sent {
-    pub answer: Answer,
+    pub answer: Result<(), Refusal>,
     pub mat: Mat,
     pub number: usize,
     pub row: [u16; 16],
@@ -85,14 +85,14 @@ pub struct Sent {
 // Oldest rose by `passed` rows.
 #[derive(Clone, Copy)]
 pub struct Acknowledged {
-    pub answer: Answer,
+    pub answer: Result<(), Refusal>,
     pub mat: Mat,
     pub passed: usize,
 }
 
 #[derive(Clone, Copy)]
 pub struct Ticked {
-    pub answer: Answer,
+    pub answer: Result<(), Refusal>,
     pub mat: Mat,
 }
 
@@ -118,7 +118,7 @@ fn sound_with(l: Limits, m: Mat, first: usize, last: usize) -> bool
 }
 
 // The mat as it is, with a message of zeros.
-fn not_sent(m: Mat, answer: Answer) -> Sent
+fn not_sent(m: Mat, answer: Result<(), Refusal>) -> Sent
     ensures { (result.answer ≡ answer) × (result.mat ≡ m) × (result.number ≡ 0) × (result.row ≡ replicate 16 0) }
 {
     Sent {
@@ -138,7 +138,7 @@ pub fn send(l: Limits, m: Mat, supply: &[u16]) -> Sent
     if sound(l, m) {
         let found = soundmat::next_row(l, m.oldest, m.next, supply);
         let answer = found.answer;
-        let Answer::Done = answer else {
+        let Ok(()) = answer else {
             return not_sent(m, answer);
         };
         let row = found.row;
@@ -155,7 +155,7 @@ pub fn send(l: Limits, m: Mat, supply: &[u16]) -> Sent
             row,
         }
     } else {
-        not_sent(m, Answer::Unsound)
+        not_sent(m, Err(Refusal::Unsound))
     }
 }
 
@@ -171,7 +171,7 @@ pub fn resend(l: Limits, m: Mat, k: usize) -> Sent
         let cells = m.cells;
         let found = soundmat::due(l, m.oldest, m.next, &marks, &timers, k);
         let answer = found.answer;
-        let Answer::Done = answer else {
+        let Ok(()) = answer else {
             return not_sent(m, answer);
         };
         let number = found.number;
@@ -184,7 +184,7 @@ pub fn resend(l: Limits, m: Mat, k: usize) -> Sent
             row,
         }
     } else {
-        not_sent(m, Answer::Unsound)
+        not_sent(m, Err(Refusal::Unsound))
     }
 }
 
@@ -207,7 +207,7 @@ pub fn acknowledge(l: Limits, m: Mat, first: usize, last: usize) -> Acknowledged
         }
     } else {
         Acknowledged {
-            answer: Answer::Unsound,
+            answer: Err(Refusal::Unsound),
             mat: m,
             passed: 0,
         }
@@ -223,18 +223,18 @@ pub fn tick(l: Limits, m: Mat, d: u16) -> Ticked
             let mut mat = m;
             soundmat::tick(l, &mut mat.timers, d);
             Ticked {
-                answer: Answer::Done,
+                answer: Ok(()),
                 mat,
             }
         } else {
             Ticked {
-                answer: Answer::BadArgument,
+                answer: Err(Refusal::BadArgument),
                 mat: m,
             }
         }
     } else {
         Ticked {
-            answer: Answer::Unsound,
+            answer: Err(Refusal::Unsound),
             mat: m,
         }
     }

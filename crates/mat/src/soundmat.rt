@@ -12,7 +12,7 @@ ghost use Rattle.limits.specs.Tables.{sound_reply};
 ghost use Rattle.mat.specs.Rules.{send_questions, sending, resend_questions, resending, acknowledge_questions, passing, acknowledging, ticked};
 ghost use Rattle.mat.specs.View.{mat_of, outstanding_of, cells_at, mat_state, sound_numbers, sound_marks, sound_mat, AcknowledgeCall};
 
-use limits::answer::Answer;
+use limits::answer::Refusal;
 use limits::{Limits, ring};
 
 // Whether the marks of `count` numbers from place `from` on, round the ring, are off: a span to the ring's end and one from place 0.
@@ -89,26 +89,26 @@ pub fn mat_sound(
 // What a send finds: the answer, and the row to send or zeros.
 #[derive(Clone, Copy)]
 pub struct NextRow {
-    pub answer: Answer,
+    pub answer: Result<(), Refusal>,
     pub row: [u16; 16],
 }
 
 // What a resend finds: the answer, and the number of the row to send again or 0.
 #[derive(Clone, Copy)]
 pub struct DueNumber {
-    pub answer: Answer,
+    pub answer: Result<(), Refusal>,
     pub number: usize,
 }
 
 // What an arriving reply gives: the answer, oldest, and by how many rows it rose.
 #[derive(Clone, Copy)]
 pub struct Passed {
-    pub answer: Answer,
+    pub answer: Result<(), Refusal>,
     pub oldest: usize,
     pub passed: usize,
 }
 
-fn no_row(answer: Answer) -> NextRow
+fn no_row(answer: Result<(), Refusal>) -> NextRow
     ensures { (result.answer ≡ answer) × (result.row ≡ replicate 16 0) }
 {
     NextRow {
@@ -130,17 +130,17 @@ pub fn next_row(l: Limits, oldest: usize, next: usize, supply: &[u16]) -> NextRo
             let row = rows::read(supply, 0);
             if rows::legal_row(row) {
                 NextRow {
-                    answer: Answer::Done,
+                    answer: Ok(()),
                     row,
                 }
             } else {
-                no_row(Answer::IllegalCell)
+                no_row(Err(Refusal::IllegalCell))
             }
         } else {
-            no_row(Answer::NoRowLeft)
+            no_row(Err(Refusal::NoRowLeft))
         }
     } else {
-        no_row(Answer::WindowFull)
+        no_row(Err(Refusal::WindowFull))
     }
 }
 
@@ -168,7 +168,7 @@ pub fn keep(
     ring::forward(2 * w, next, 1)
 }
 
-fn not_due(answer: Answer) -> DueNumber
+fn not_due(answer: Result<(), Refusal>) -> DueNumber
     ensures { (result.answer ≡ answer) × (result.number ≡ 0) }
 {
     DueNumber { answer, number: 0 }
@@ -193,17 +193,17 @@ pub fn due(
         let number = ring::forward(2 * w, oldest, k);
         let at = ring::slot(w, number);
         if marks[at] {
-            not_due(Answer::AlreadyAcknowledged)
+            not_due(Err(Refusal::AlreadyAcknowledged))
         } else if timers[at] == 0 {
             DueNumber {
-                answer: Answer::Done,
+                answer: Ok(()),
                 number,
             }
         } else {
-            not_due(Answer::TimerRunning)
+            not_due(Err(Refusal::TimerRunning))
         }
     } else {
-        not_due(Answer::NotOutstanding)
+        not_due(Err(Refusal::NotOutstanding))
     }
 }
 
@@ -250,7 +250,7 @@ fn mark_off(
     requires { (sound_limits l ≡ true) × (oldest < 2 * l.window) × (next < 2 * l.window) × (distance (2 * l.window) oldest next ≤ l.window)
         × (first < 2 * l.window) × (1 ≤ count) × (distance (2 * l.window) oldest first + count ≤ distance (2 * l.window) oldest next) }
     ensures { (timers cells : List ℕ) → sound_mat l (mat_of oldest next marks.old timers cells) ≡ true
-        → (result.answer ≡ Answer.Done) × (sound_mat l (mat_of result.oldest next marks.new timers cells) ≡ true)
+        → (result.answer ≡ Ok tt) × (sound_mat l (mat_of result.oldest next marks.new timers cells) ≡ true)
         × (record { state = mat_state l.window (mat_of result.oldest next marks.new timers cells); passed = result.passed }
         ≡ passing l (mat_state l.window (mat_of oldest next marks.old timers cells)) (distance (2 * l.window) oldest first) count) }
 {
@@ -261,7 +261,7 @@ fn mark_off(
     let passed = marked_run(marks, w, from, out);
     rows::set_span(marks, w, from, passed, false);
     Passed {
-        answer: Answer::Done,
+        answer: Ok(()),
         oldest: ring::forward(2 * w, oldest, passed),
         passed,
     }
@@ -289,7 +289,7 @@ pub fn acknowledge(
         mark_off(l, oldest, next, marks, first, count)
     } else {
         Passed {
-            answer: Answer::SpanNotOutstanding,
+            answer: Err(Refusal::SpanNotOutstanding),
             oldest,
             passed: 0,
         }

@@ -11,7 +11,7 @@ ghost use Rattle.pad.specs.View.{pad_of, pad_state, fresh_pad, sound_pad, Arrive
 pub mod soundpad;
 
 use limits::Limits;
-use limits::answer::Answer;
+use limits::answer::Refusal;
 
 // `wanted` is the number, modulo 2w, of the first row that is not recorded. Row m stands at place m mod w, beside its mark (held)
 // and its reply timer.
@@ -62,7 +62,7 @@ pub fn assembled(wanted: usize, held: [bool; 32], timers: [u16; 32], cells: [u16
 // Where the row was an old one, `first` and `last` are the reply to put.
 #[derive(Clone, Copy)]
 pub struct Arrived {
-    pub answer: Answer,
+    pub answer: Result<(), Refusal>,
     pub pad: Pad,
     pub old: bool,
     pub first: usize,
@@ -71,14 +71,14 @@ pub struct Arrived {
 
 #[derive(Clone, Copy)]
 pub struct RunLength {
-    pub answer: Answer,
+    pub answer: Result<(), Refusal>,
     pub count: usize,
 }
 
 // `count` rows were recorded, and `first` and `last` are the reply to put.
 #[derive(Clone, Copy)]
 pub struct Replied {
-    pub answer: Answer,
+    pub answer: Result<(), Refusal>,
     pub pad: Pad,
     pub count: usize,
     pub first: usize,
@@ -87,7 +87,7 @@ pub struct Replied {
 
 #[derive(Clone, Copy)]
 pub struct Ticked {
-    pub answer: Answer,
+    pub answer: Result<(), Refusal>,
     pub pad: Pad,
 }
 
@@ -123,7 +123,7 @@ fn taken(l: Limits, p: Pad, number: usize, row: [u16; 16]) -> Arrived
         let mut cells = p.cells;
         soundpad::hold(l, number, &mut held, &mut timers, &mut cells, row);
         Arrived {
-            answer: Answer::Done,
+            answer: Ok(()),
             pad: assembled(wanted, held, timers, cells),
             old: false,
             first: 0,
@@ -131,7 +131,7 @@ fn taken(l: Limits, p: Pad, number: usize, row: [u16; 16]) -> Arrived
         }
     } else {
         Arrived {
-            answer: Answer::Done,
+            answer: Ok(()),
             pad: p,
             old: true,
             first: number,
@@ -150,7 +150,7 @@ pub fn arrive(l: Limits, p: Pad, number: usize, row: [u16; 16]) -> Arrived
         taken(l, p, number, row)
     } else {
         Arrived {
-            answer: Answer::Unsound,
+            answer: Err(Refusal::Unsound),
             pad: p,
             old: false,
             first: 0,
@@ -168,14 +168,14 @@ pub fn run_length(l: Limits, p: Pad) -> RunLength
         soundpad::run_length(l, p.wanted, &p.held, &p.timers)
     } else {
         RunLength {
-            answer: Answer::Unsound,
+            answer: Err(Refusal::Unsound),
             count: 0,
         }
     }
 }
 
 // The pad as it is, with nothing recorded and nothing to put.
-fn not_replied(p: Pad, answer: Answer) -> Replied
+fn not_replied(p: Pad, answer: Result<(), Refusal>) -> Replied
     ensures { (result.answer ≡ answer) × (result.pad ≡ p) × (result.count ≡ 0) × (result.first ≡ 0) × (result.last ≡ 0) }
 {
     Replied {
@@ -197,7 +197,7 @@ fn recorded(l: Limits, p: Pad, buffer: &mut [u16]) -> Replied
     let first = p.wanted;
     let run = soundpad::run_length(l, first, &p.held, &p.timers);
     let answer = run.answer;
-    let Answer::Done = answer else {
+    let Ok(()) = answer else {
         return not_replied(p, answer);
     };
     let count = run.count;
@@ -212,7 +212,7 @@ fn recorded(l: Limits, p: Pad, buffer: &mut [u16]) -> Replied
             last: passed.last,
         }
     } else {
-        not_replied(p, Answer::RecordFull)
+        not_replied(p, Err(Refusal::RecordFull))
     }
 }
 
@@ -225,7 +225,7 @@ pub fn reply(l: Limits, p: Pad, buffer: &mut [u16]) -> Replied
     if sound(l, p) {
         recorded(l, p, buffer)
     } else {
-        not_replied(p, Answer::Unsound)
+        not_replied(p, Err(Refusal::Unsound))
     }
 }
 
@@ -238,18 +238,18 @@ pub fn tick(l: Limits, p: Pad, d: u16) -> Ticked
             let mut pad = p;
             soundpad::tick(l, &mut pad.timers, d);
             Ticked {
-                answer: Answer::Done,
+                answer: Ok(()),
                 pad,
             }
         } else {
             Ticked {
-                answer: Answer::BadArgument,
+                answer: Err(Refusal::BadArgument),
                 pad: p,
             }
         }
     } else {
         Ticked {
-            answer: Answer::Unsound,
+            answer: Err(Refusal::Unsound),
             pad: p,
         }
     }

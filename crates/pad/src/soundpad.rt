@@ -12,7 +12,7 @@ ghost use Rattle.pad.specs.Rules.{holding, run, run_questions, replying, ticked}
 ghost use Rattle.pad.specs.View.{pad_of, slot_at, pad_state, sound_slot, sound_pad};
 
 use crate::RunLength;
-use limits::answer::Answer;
+use limits::answer::Refusal;
 use limits::{Limits, ring};
 
 // Whether the row at place `at` has legal cells, where it is held.
@@ -121,12 +121,12 @@ pub fn run_length(l: Limits, wanted: usize, held: &[bool; 32], timers: &[u16; 32
     let count = ready_run(held, timers, w, ring::slot(w, wanted));
     if 0 < count {
         RunLength {
-            answer: Answer::Done,
+            answer: Ok(()),
             count,
         }
     } else {
         RunLength {
-            answer: Answer::NothingReady,
+            answer: Err(Refusal::NothingReady),
             count: 0,
         }
     }

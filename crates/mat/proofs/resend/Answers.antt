@@ -15,18 +15,18 @@ due-found-requires c = let q = two _ _ (sym c.sound.ensures ∙ c.if-sound.true)
 pub returns-in_default : goal.returns-in_default
 returns-in_default c = let m = c.args.m in
     called-sound _ _ _ _ _ _ _ _ _ (sym c.sound.ensures ∙ c.if-sound.true)
-    (unsent-called _ m _ _ _ _ c.not_sent.ensures (c.due-found.ensures m.cells).number (not_done c.due-found.result.answer c.in_default.not-Done))
+    (unsent-called _ m _ _ _ _ c.not_sent.ensures (c.due-found.ensures m.cells).number (not_done c.due-found.result.answer c.in_default.not-Ok))
 
 pub again-row-requires : goal.again-row-requires
 again-row-requires c = let m = c.args.m in
     let t = two _ _ (sym c.sound.ensures ∙ c.if-sound.true) in
-    (t.0, due-low _ m _ _ _ (c.due-found.ensures m.cells) (ap number_of c.in-Done.is) t.0 t.1)
+    (t.0, due-low _ m _ _ _ (c.due-found.ensures m.cells) (ap number_of c.in-Ok.is) t.0 t.1)
 
-pub returns-in-Done : goal.returns-in-Done
-returns-in-Done c = let l = c.args.l in let m = c.args.m in
+pub returns-in-Ok : goal.returns-in-Ok
+returns-in-Ok c = let l = c.args.l in let m = c.args.m in
     let q = sym c.sound.ensures ∙ c.if-sound.true in
     let a = c.due-found.ensures m.cells in
-    let d = ap number_of c.in-Done.is in
+    let d = ap number_of c.in-Ok.is in
     let t = two (sound_limits l) (sound_mat l m) q in
     called-sound _ _ _ _ _ _ _ _ _ q
     (resend-done _ m _ _ _ a d _ _ _ c.assembled-mat.ensures (c.again-row.ensures m.oldest m.next m.marks _ t.1 (due-there l m _ _ _ a d) (due-is l m _ _ _ a d)))

@@ -8,8 +8,8 @@ use lib.ListN.{length}
 use borrow.Author.Tests.{lt-ltb}
 use Rattle.limits.specs.Tables.{no_reply}
 use Rattle.limits.specs.declared.Limits.{Limits}
-use Rattle.limits.specs.declared.answer.Answer.{Answer}
-use Rattle.limits.specs.declared.answer.Answer.TheVariants.{Done}
+use Rattle.limits.specs.Questions.{Answer}
+use Rattle.std.specs.Prelude.{Ok, Err}
 use Rattle.limits.specs.Answer.{number_of}
 use Rattle.limits.specs.Ring.{distance}
 use Rattle.limits.proofs.Laws.Choice.{pick_yes, pick_no}
@@ -24,7 +24,7 @@ module _ (l : Limits) (p : Pad) (number : ℕ) (row : List ℕ) where
   pub arrive-new : (p' pad : Pad) → pad ≡ p' → distance (2 * l.window) p.wanted number < l.window
       → (sound_pad l p' ≡ true) × (pad_state l.window p' ≡ holding l (pad_state l.window p) (record { number = number; row = row }))
       → ArriveCall l p [] (arrival l (pad_state l.window p) (record { number = number; row = row }))
-      (record { answer = Done; pad = pad; old = false; first = 0; last = 0 })
+      (record { answer = (Ok tt); pad = pad; old = false; first = 0; last = 0 })
   unfolding arrival pad_state
   arrive-new p' pad q h e =
       rw q
@@ -34,7 +34,7 @@ module _ (l : Limits) (p : Pad) (number : ℕ) (row : List ℕ) where
 
   pub arrive-old : ltb (distance (2 * l.window) p.wanted number) l.window ≡ false
       → ArriveCall l p [] (arrival l (pad_state l.window p) (record { number = number; row = row }))
-      (record { answer = Done; pad = p; old = true; first = number; last = number })
+      (record { answer = (Ok tt); pad = p; old = true; first = number; last = number })
   unfolding arrival pad_state
   arrive-old h =
       record {
