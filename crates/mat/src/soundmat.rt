@@ -1,5 +1,7 @@
 // Inner: called by the mat's public calls, events and runs. The mat's events where question 4 has been put and passed. Each takes
 // the numbers and arrays that it needs; arrays are lent and change in place.
+#![tactic(auto, using(limits::proofs::Laws::Good::good))]
+
 ghost use Rattle.std.specs.Prelude.{◌≡◌, Bool, true, false, not, ◌&&◌, List, ℕ, ◌+◌, ◌*◌, ◌%◌, ◌<◌, ◌≤◌, leb, get_or, take};
 ghost use Rattle.limits.specs.Lists.{tab, all, leading};
 ghost use Rattle.limits.specs.Cells.{row_at, legal_row};
@@ -19,11 +21,8 @@ fn unmarked(marks: &[bool; 32], w: usize, from: usize, count: usize) -> bool
     requires { (w ≤ 32) × (from < w) × (count ≤ w) }
     ensures { result ≡ all not (tab count (λ i. get_or marks.now ((from + i) % w) false)) }
 {
-    let over = rows::beyond(w, from + count);
-    rows::both(
-        rows::none_set(marks, from, from + count - over),
-        rows::none_set(marks, 0, over),
-    )
+    let over = (from + count).saturating_sub(w);
+    rows::none_set(marks, from, from + count - over) && rows::none_set(marks, 0, over)
 }
 
 // Whether the rows of `count` numbers from place `from` on, round the ring, have legal cells.
@@ -31,18 +30,16 @@ fn legal_rows(cells: &[u16; 512], w: usize, from: usize, count: usize) -> bool
     requires { (w ≤ 32) × (from < w) × (count ≤ w) }
     ensures { result ≡ all legal_row (tab count (λ i. row_at cells.now ((from + i) % w))) }
 {
-    let over = rows::beyond(w, from + count);
-    rows::both(
-        rows::legal_cells(cells, 16 * from, 16 * (from + count - over)),
-        rows::legal_cells(cells, 0, 16 * over),
-    )
+    let over = (from + count).saturating_sub(w);
+    rows::legal_cells(cells, 16 * from, 16 * (from + count - over))
+        && rows::legal_cells(cells, 0, 16 * over)
 }
 
 fn numbers_sound(w: usize, oldest: usize, next: usize) -> bool
     requires { (1 ≤ w) × (w ≤ 32) }
     ensures { (marks : List Bool) (timers cells : List ℕ) → result ≡ sound_numbers w (mat_of oldest next marks timers cells) }
 {
-    rows::both(oldest < 2 * w, next < 2 * w) && ring::gap(2 * w, oldest, next) <= w
+    oldest < 2 * w && next < 2 * w && ring::gap(2 * w, oldest, next) <= w
 }
 
 fn marked_sound(w: usize, oldest: usize, next: usize, marks: &[bool; 32]) -> bool
@@ -51,7 +48,7 @@ fn marked_sound(w: usize, oldest: usize, next: usize, marks: &[bool; 32]) -> boo
 {
     let out = ring::gap(2 * w, oldest, next);
     let at = ring::slot(w, oldest);
-    rows::both(!marks[at], unmarked(marks, w, ring::slot(w, next), w - out))
+    !marks[at] && unmarked(marks, w, ring::slot(w, next), w - out)
 }
 
 // In most calls no mark is set at all; then no mark needs to be looked at place by place.
@@ -59,11 +56,7 @@ fn marks_sound(w: usize, oldest: usize, next: usize, marks: &[bool; 32]) -> bool
     requires { (1 ≤ w) × (w ≤ 32) × (oldest < 2 * w) × (next < 2 * w) × (distance (2 * w) oldest next ≤ w) }
     ensures { (timers cells : List ℕ) → result ≡ sound_marks w (mat_of oldest next marks.now timers cells) }
 {
-    if rows::none_set(marks, 0, 32) {
-        true
-    } else {
-        marked_sound(w, oldest, next, marks)
-    }
+    rows::none_set(marks, 0, 32) || marked_sound(w, oldest, next, marks)
 }
 
 fn rows_sound(l: Limits, oldest: usize, next: usize, timers: &[u16; 32], cells: &[u16; 512]) -> bool
@@ -74,10 +67,7 @@ fn rows_sound(l: Limits, oldest: usize, next: usize, timers: &[u16; 32], cells: 
 {
     let w = l.window;
     let out = ring::gap(2 * w, oldest, next);
-    rows::both(
-        rows::at_most(timers, w, l.resendwait),
-        legal_rows(cells, w, ring::slot(w, oldest), out),
-    )
+    rows::at_most(timers, w, l.resendwait) && legal_rows(cells, w, ring::slot(w, oldest), out)
 }
 
 // The numbers first: the marks and rows to look at lie by them.
@@ -93,10 +83,8 @@ pub fn mat_sound(
     ensures { result ≡ sound_mat l (mat_of oldest next marks.now timers.now cells.now) }
 {
     numbers_sound(l.window, oldest, next)
-        && rows::both(
-            marks_sound(l.window, oldest, next, marks),
-            rows_sound(l, oldest, next, timers, cells),
-        )
+        && (marks_sound(l.window, oldest, next, marks)
+            && rows_sound(l, oldest, next, timers, cells))
 }
 
 // What an arriving reply gives: oldest, and by how many rows it rose.
@@ -145,8 +133,7 @@ pub fn keep(
 {
     let w = l.window;
     let at = ring::slot(w, next);
-    let wait = l.resendwait;
-    rows::set(timers, at, wait);
+    timers[at] = l.resendwait;
     rows::write(cells, 16 * at, row);
     ring::forward(2 * w, next, 1)
 }
@@ -192,7 +179,7 @@ pub fn again(l: Limits, number: usize, timers: &mut [u16; 32], cells: &[u16; 512
         ≡ resending l (mat_state l.window (mat_of oldest next marks timers.old cells.now)) k) }
 {
     let at = ring::slot(l.window, number);
-    rows::set(timers, at, l.resendwait);
+    timers[at] = l.resendwait;
     rows::load(cells, at)
 }
 
@@ -202,16 +189,13 @@ fn marked_run(marks: &[bool; 32], w: usize, from: usize, most: usize) -> usize
     ensures { result ≡ leading (λ (b : Bool). b) (tab most (λ i. get_or marks.now ((from + i) % w) false)) }
 {
     let mut at = from;
-    let mut n = 0;
-    while n < most {
-        if marks[at] {
-            n += 1;
-            at = rows::after(w, at);
-        } else {
-            return n;
+    for k in 0..most {
+        if !marks[at] {
+            return k;
         }
+        at = rows::after(w, at);
     }
-    n
+    most
 }
 
 // The `count` numbers from `first` on are marked, and oldest passes every marked number, whose marks are taken away.

@@ -1,6 +1,8 @@
 // Inner: called by the pad's public calls, events and runs. The pad's events where question 4 has been put and passed. Each takes
 // the numbers and arrays that it needs; arrays are lent and change in place.
-ghost use Rattle.std.specs.Prelude.{◌≡◌, Bool, true, false, ◌&&◌, List, ◌++◌, ℕ, ◌+◌, ◌*◌, ◌%◌, ◌<◌, ◌≤◌, ltb, length, get_or, drop};
+#![tactic(auto, using(limits::proofs::Laws::Good::good))]
+
+ghost use Rattle.std.specs.Prelude.{◌≡◌, Bool, true, false, ◌&&◌, List, ◌++◌, ℕ, ◌+◌, ◌*◌, ◌%◌, ◌<◌, ◌≤◌, ltb, length, get_or, drop, IsTrue, ◌↔◌};
 ghost use Rattle.limits.specs.Lists.{tab, all, leading, joined};
 ghost use Rattle.limits.specs.Cells.{row_at, legal_row};
 ghost use Rattle.limits.specs.Questions.{pick, Answered};
@@ -18,26 +20,18 @@ fn row_sound(held: bool, cells: &[u16; 512], at: usize) -> bool
     requires { at < 32 }
     ensures { result ≡ pick held (legal_row (row_at cells.now at)) true }
 {
-    if held {
-        rows::legal_cells(cells, 16 * at, 16 * at + 16)
-    } else {
-        true
-    }
+    !held || rows::legal_cells(cells, 16 * at, 16 * at + 16)
 }
 
 // Whether the rows held at the first w places have legal cells.
 fn held_sound(held: &[bool; 32], cells: &[u16; 512], w: usize) -> bool
     requires { w ≤ 32 }
-    ensures { (wanted : ℕ) (timers : List ℕ)
-        → result ≡ all sound_slot (tab w (slot_at (pad_of wanted held.now timers cells.now))) }
+    ensures { IsTrue result ↔ ((k : ℕ) → k < w → pick (get_or held.now k false) (legal_row (row_at cells.now k)) true ≡ true) }
 {
-    let mut good = true;
-    let mut i = 0;
-    while i < w {
-        good = rows::both(good, row_sound(held[i], cells, i));
-        i += 1;
-    }
-    good
+    held[..w]
+        .iter()
+        .enumerate()
+        .all(|(at, held)| row_sound(*held, cells, at))
 }
 
 // In most calls no row is held at all; then no row needs to be looked at.
@@ -46,11 +40,7 @@ fn cells_sound(held: &[bool; 32], cells: &[u16; 512], w: usize) -> bool
     ensures { (wanted : ℕ) (timers : List ℕ)
         → result ≡ all sound_slot (tab w (slot_at (pad_of wanted held.now timers cells.now))) }
 {
-    if rows::none_set(held, 0, 32) {
-        true
-    } else {
-        held_sound(held, cells, w)
-    }
+    rows::none_set(held, 0, 32) || held_sound(held, cells, w)
 }
 
 pub fn pad_sound(
@@ -64,13 +54,7 @@ pub fn pad_sound(
     ensures { result ≡ sound_pad l (pad_of wanted held.now timers.now cells.now) }
 {
     let w = l.window;
-    rows::both(
-        wanted < 2 * w,
-        rows::both(
-            rows::at_most(timers, w, l.replywait),
-            cells_sound(held, cells, w),
-        ),
-    )
+    wanted < 2 * w && (rows::at_most(timers, w, l.replywait) && cells_sound(held, cells, w))
 }
 
 // What recording a run gives: the number wanted then, and the last number of the run.
@@ -105,16 +89,9 @@ pub fn hold(
         ≡ holding l (pad_state l.window (pad_of wanted held.old timers.old cells.old)) «data») }
 {
     let at = ring::slot(l.window, data.number);
-    rows::set_span(held, l.window, at, 1, true);
-    rows::set(timers, at, l.replywait);
+    held[at] = true;
+    timers[at] = l.replywait;
     rows::write(cells, 16 * at, data.row);
-}
-
-// Held with a reply timer above 0.
-fn is_ready(held: bool, timer: u16) -> bool
-    ensures { result ≡ (held && ltb 0 timer) }
-{
-    held && 0 < timer
 }
 
 // How many rows from place `from` on, round the ring, are ready.
@@ -124,16 +101,13 @@ fn ready_run(held: &[bool; 32], timers: &[u16; 32], w: usize, from: usize) -> us
         (tab w (λ i. get_or held.now ((from + i) % w) false && ltb 0 (get_or timers.now ((from + i) % w) 0))) }
 {
     let mut at = from;
-    let mut n = 0;
-    while n < w {
-        if is_ready(held[at], timers[at]) {
-            n += 1;
-            at = rows::after(w, at);
-        } else {
-            return n;
+    for k in 0..w {
+        if !(held[at] && 0 < timers[at]) {
+            return k;
         }
+        at = rows::after(w, at);
     }
-    n
+    w
 }
 
 // The length of the run at wanted: 20.
@@ -162,12 +136,10 @@ fn write_run(buffer: &mut [u16], cells: &[u16; 512], w: usize, from: usize, coun
         ≡ joined (tab count (λ i. row_at cells.now ((from + i) % w))) ++ drop (16 * count) buffer.old }
 {
     let mut at = from;
-    let mut i = 0;
-    while i < count {
+    for k in 0..count {
         let row = rows::load(cells, at);
-        rows::write(buffer, 16 * i, row);
+        rows::write(buffer, 16 * k, row);
         at = rows::after(w, at);
-        i += 1;
     }
 }
 

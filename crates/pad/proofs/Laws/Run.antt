@@ -1,16 +1,16 @@
 -- Laws on the run of rows at wanted.
-use Prim.Native.Nat.{ℕ, ◌+◌, ◌%◌, ◌≤◌, ◌<◌}
+use Prim.Native.Nat.{ℕ, ◌+◌, ◌%◌, ◌≤◌}
 use mathlib.Core.Path.{◌≡◌, sym, ◌∙◌, ap}
 use mathlib.Core.Bool.{Bool, true, false, ◌&&◌}
-use mathlib.Core.List.{List, map}
+use mathlib.Core.List.{map}
 use native.Mathlib.Omega.{arith}
 use native.Mathlib.Nat.{mod-add-mod}
 use lib.Dec.{ltb}
 use lib.ListN.{get_or, take}
 use Rattle.limits.specs.Cells.{row_at}
-use Rattle.limits.specs.Lists.{tab, all, leading, joined}
+use Rattle.limits.specs.Lists.{tab, leading, joined}
 use Rattle.limits.specs.Ring.{place}
-use Rattle.limits.proofs.Laws.Lists.{length-tab, all_more, all-tab-at, tab-ext, take-tab, map-tab, leading-is, leading_at, leading-most, leading-agree}
+use Rattle.limits.proofs.Laws.Lists.{length-tab, tab-ext, take-tab, map-tab, leading_at, leading-most, leading-agree}
 use Rattle.pad.specs.declared.Pad.{Pad}
 use Rattle.pad.specs.Window.{ready, contents}
 use Rattle.pad.specs.Rules.{run}
@@ -20,26 +20,6 @@ use Rattle.limits.specs.declared.Limits.{Limits}
 use Rattle.limits.specs.Limits.{sound_limits}
 use Rattle.limits.proofs.Laws.Good.{Good, good}
 use Rattle.pad.proofs.Laws.Sound.{Facts, facts}
-
--- Whether the row i on from place `from` is ready, by the arrays.
-unfoldable pub ready_on : List Bool → List ℕ → ℕ → ℕ → ℕ → Bool
-ready_on held timers w from i = get_or held ((from + i) % w) false && ltb 0 (get_or timers ((from + i) % w) 0)
-
--- the loop that counts ready rows: a turn, the row at which it stops, and its end
-module _ (held : List Bool) (timers : List ℕ) (w from n : ℕ) (e : all (λ (b : Bool). b) (tab n (ready_on held timers w from)) ≡ true) where
-  module _ (at : ℕ) (r : Bool) (q : at ≡ (from + n) % w) (is : r ≡ (get_or held at false && ltb 0 (get_or timers at 0))) where
-    same : r ≡ ready_on held timers w from n
-    unfolding ready_on
-    same = is ∙ ap (λ a. get_or held a false && ltb 0 (get_or timers a 0)) q
-
-    pub ready-turn : r ≡ true → all (λ (b : Bool). b) (tab (n + 1) (ready_on held timers w from)) ≡ true
-    ready-turn t = all_more (λ b. b) n (ready_on held timers w from) e (sym same ∙ t)
-
-    pub ready-stop : n < w → r ≡ false → n ≡ leading (λ (b : Bool). b) (tab w (ready_on held timers w from))
-    ready-stop h t = sym (leading-is (λ b. b) w (ready_on held timers w from) n (omega arith) (all-tab-at (λ b. b) n _ e) (λ _. sym same ∙ t))
-
-  pub ready-end : n ≡ w → n ≡ leading (λ (b : Bool). b) (tab w (ready_on held timers w from))
-  ready-end h = sym (leading-is (λ b. b) w (ready_on held timers w from) n (omega arith) (all-tab-at (λ b. b) n _ e) (λ o. absurd (omega arith)))
 
 module _ (w : ℕ) (p : Pad) (h : 1 ≤ w) where
   run-most : run (pad_state w p) ≤ w

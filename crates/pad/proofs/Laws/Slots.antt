@@ -1,16 +1,17 @@
 -- Laws on what stands at a place of the pad.
 use Prim.Native.Nat.{ℕ, ◌≤◌, ◌<◌}
 use mathlib.Core.Path.{◌≡◌, refl, sym, ◌∙◌, ap, ap₂}
-use mathlib.Core.Bool.{true, false, ◌&&◌}
+use mathlib.Core.Bool.{Bool, true, false, ◌&&◌}
 use mathlib.Core.List.{List}
 use native.Mathlib.Omega.{arith}
 use lib.Dec.{ltb}
 use lib.ListN.{length, get_or}
+use Rattle.std.specs.Prelude.{IsTrue, ◌↔◌}
 use Rattle.limits.specs.Cells.{row_at, legal_row}
 use Rattle.limits.specs.Lists.{tab, all}
 use Rattle.limits.specs.Questions.{pick}
 use Rattle.limits.proofs.Laws.Choice.{test, pick_yes, pick_no, clash, and-no-left, and-goes-on}
-use Rattle.limits.proofs.Laws.Lists.{all-tab}
+use Rattle.limits.proofs.Laws.Lists.{all-tab, all-tab-at}
 use Rattle.pad.specs.declared.Pad.{Pad}
 use Rattle.pad.specs.Window.{Slot, empty, full, ready, contents}
 use Rattle.pad.specs.Rules.{slot_falls}
@@ -57,6 +58,15 @@ slot-sound p at =
     slot_cases p at
     (λ e s. ap sound_slot s ∙ sym (pick_yes _ _ _ _ e refl))
     (λ e s. ap sound_slot s ∙ sym (pick_no _ _ _ _ e refl))
+
+-- every row held is sound where each place passes, by the arrays
+pub held_sound : (p : Pad) (w : ℕ) (b : Bool) → IsTrue b ↔ ((k : ℕ) → k < w → pick (get_or p.held k false) (legal_row (row_at p.cells k)) true ≡ true)
+    → b ≡ all sound_slot (tab w (slot_at p))
+held_sound p w true e = sym (all-tab sound_slot w (slot_at p) (λ i h. slot-sound p i ∙ e.0 refl i h))
+held_sound p w false e =
+    test (all sound_slot (tab w (slot_at p)))
+    (λ t. absurd (clash false (e.1 (λ k h. sym (slot-sound p k) ∙ all-tab-at sound_slot w (slot_at p) t k h)) refl))
+    (λ f. sym f)
 
 -- where no row is held, every row held is sound
 pub unheld-sound : (p : Pad) (w : ℕ) → w ≤ 32 → ((i : ℕ) → i < 32 → get_or p.held i false ≡ false) → all sound_slot (tab w (slot_at p)) ≡ true

@@ -10,17 +10,11 @@ use mathlib.Core.Path.{refl, sym, ◌∙◌, ap}
 use native.Mathlib.Omega.{arith}
 use Rattle.mat.proofs.soundmat.acknowledge.Goals as goal
 
-pub overflow_mul-w : goal.overflow_mul-w
-overflow_mul-w c = omega (arith, good _ c.requires.0)
-
 pub gap-count-requires : goal.gap-count-requires
 gap-count-requires c = let r = reply-facts _ _ c.requires.4 in omega (arith, r, good _ c.requires.0)
 
 pub overflow_add-count : goal.overflow_add-count
 overflow_add-count c = let r = reply-facts _ _ c.requires.4 in let g = good _ c.requires.0 in let h = gap_below _ _ _ _ c.gap-count.ensures (omega (arith, r)) (omega (arith, r)) in omega (arith, g, h)
-
-pub overflow_mul-w-2 : goal.overflow_mul-w-2
-overflow_mul-w-2 c = omega (arith, good _ c.requires.0)
 
 pub gap-requires : goal.gap-requires
 gap-requires c = let r = reply-facts _ _ c.requires.4 in omega (arith, r, good _ c.requires.0, c.requires.1)

@@ -9,31 +9,9 @@ use Prim.Native.Nat.{◌+◌, ◌%◌}
 use native.Mathlib.Omega.{arith}
 use Rattle.mat.proofs.soundmat.mark_off.Goals as goal
 
-pub overflow_mul-w : goal.overflow_mul-w
-overflow_mul-w c = omega (arith, good _ c.requires.0)
-
-pub gap-out-requires : goal.gap-out-requires
-gap-out-requires c = omega (arith, good _ c.requires.0, c.requires.1, c.requires.2)
-
-pub slot-from-requires : goal.slot-from-requires
-slot-from-requires c = omega (arith, good _ c.requires.0, c.requires.1)
-
-pub slot-requires : goal.slot-requires
-slot-requires c = omega (arith, good _ c.requires.0, c.requires.4)
-
-pub set_span-requires : goal.set_span-requires
-set_span-requires c = let g = good _ c.requires.0 in
-    omega (arith, g, c.requires.3, c.requires.6, c.set_span-arg-1.given.0.1, at-below _ _ _ g.window-low c.slot.ensures)
-
-pub marked_run-passed-requires : goal.marked_run-passed-requires
-marked_run-passed-requires c = let g = good _ c.requires.0 in omega (arith, g, c.slot-from.ensures, place-below _ c.args.oldest g.window-low)
-
 pub set_span-requires-2 : goal.set_span-requires-2
 set_span-requires-2 c = let g = good _ c.requires.0 in
     omega (arith, g, c.requires.3, c.set_span-arg-2-1.given.0.1, run-most _ _ _ c.marked_run-passed.ensures, c.gap-out.ensures, c.slot-from.ensures, place-below _ c.args.oldest g.window-low)
-
-pub overflow_mul-w-2 : goal.overflow_mul-w-2
-overflow_mul-w-2 c = omega (arith, good _ c.requires.0)
 
 pub forward-requires : goal.forward-requires
 forward-requires c = omega (arith, good _ c.requires.0, c.requires.1, c.requires.3, run-most _ _ _ c.marked_run-passed.ensures, c.gap-out.ensures)
@@ -41,7 +19,7 @@ forward-requires c = omega (arith, good _ c.requires.0, c.requires.1, c.requires
 pub returns : goal.returns
 returns c = λ timers cells sound. let m = mat_of c.args.oldest c.args.next c.args.marks.now timers cells in
     let f = facts _ m c.requires.0 sound in
-    let k = c.set_span-arg-1.given.0.1 in
+    let k = c.told-marks in
     let a = c.slot.ensures ∙ place-at-distance _ _ _ c.requires.1 c.requires.4 in
     let o = c.slot-from.ensures in
     let d = o ∙ ap (◌% c.args.l.window) {x = c.args.oldest} {y = c.args.oldest + 0} (omega arith) in

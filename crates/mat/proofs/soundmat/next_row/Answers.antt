@@ -5,14 +5,7 @@ use Rattle.limits.proofs.Laws.Good.{good}
 use Rattle.limits.specs.Cells.{legal_row}
 use borrow.Author.Tests.{le-leb, lt-leb}
 use mathlib.Core.Path.{refl, sym, ◌∙◌, ap}
-use native.Mathlib.Omega.{arith}
 use Rattle.mat.proofs.soundmat.next_row.Goals as goal
-
-pub overflow_mul-w : goal.overflow_mul-w
-overflow_mul-w c = omega (arith, good _ c.requires.0)
-
-pub gap-requires : goal.gap-requires
-gap-requires c = omega (arith, good _ c.requires.0, c.requires.1)
 
 pub returns-then-w-gap : goal.returns-then-w-gap
 returns-then-w-gap c = λ marks timers cells. let m = mat_of c.args.oldest c.args.next marks timers cells in

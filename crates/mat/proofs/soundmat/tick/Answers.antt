@@ -1,12 +1,7 @@
 use Rattle.mat.specs.View.{mat_of}
 use Rattle.mat.proofs.Laws.Tick.{fell-shown, fell-sound}
 use Rattle.mat.proofs.Laws.Sound.{facts}
-use Rattle.limits.proofs.Laws.Good.{good}
-use native.Mathlib.Omega.{arith}
 use Rattle.mat.proofs.soundmat.tick.Goals as goal
-
-pub fall-requires : goal.fall-requires
-fall-requires c = omega (arith, good _ c.requires)
 
 pub returns : goal.returns
 returns c = λ oldest next marks cells s. let m = mat_of oldest next marks c.args.timers.now cells in

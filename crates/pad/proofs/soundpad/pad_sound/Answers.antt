@@ -1,24 +1,23 @@
 use Rattle.pad.specs.View.{sound_pad}
-use Rattle.limits.proofs.Laws.Good.{good}
-use lib.Dec.{ltb}
-use mathlib.Core.Bool.{◌&&◌}
-use mathlib.Core.Path.{◌∙◌, ap, ap₂}
-use Prim.Native.Nat.{◌*◌}
-use native.Mathlib.Omega.{arith}
+use Rattle.limits.proofs.Laws.Choice.{and-goes-on, and-stops}
+use borrow.Author.Tests.{lt-ltb, le-ltb}
+use mathlib.Core.Path.{sym, ◌∙◌}
 use Rattle.pad.proofs.soundpad.pad_sound.Goals as goal
 
-pub overflow_mul-w : goal.overflow_mul-w
-overflow_mul-w c = let g = good _ c.requires in omega arith
-
-pub at_most-requires : goal.at_most-requires
-at_most-requires c = let g = good _ c.requires in omega arith
-
-pub cells_sound-requires : goal.cells_sound-requires
-cells_sound-requires c = let g = good _ c.requires in omega arith
-
-pub returns : goal.returns
+pub returns-then-at_most : goal.returns-then-at_most
 unfolding sound_pad
-returns c = let a = c.args in
-    c.both-2.ensures
-    ∙ ap (ltb a.wanted (2 * a.l.window) &&◌)
-    (c.both.ensures ∙ ap₂ ◌&&◌ c.at_most.ensures (c.cells_sound.ensures a.wanted a.timers.now))
+returns-then-at_most c =
+    c.cells_sound.ensures c.args.wanted c.args.timers.now
+    ∙ and-goes-on _ _ (sym c.at_most.ensures ∙ c.if-at_most.true)
+    ∙ and-goes-on _ _ (lt-ltb _ _ c.if-wanted-w.true)
+
+pub returns-else-at_most : goal.returns-else-at_most
+unfolding sound_pad
+returns-else-at_most c =
+    c.at_most.ensures
+    ∙ and-stops _ _ (sym c.at_most.ensures ∙ c.if-at_most.false)
+    ∙ and-goes-on _ _ (lt-ltb _ _ c.if-wanted-w.true)
+
+pub returns-else-wanted-w : goal.returns-else-wanted-w
+unfolding sound_pad
+returns-else-wanted-w c = and-stops _ _ (le-ltb _ _ c.if-wanted-w.false)

@@ -1,12 +1,10 @@
-use mathlib.Core.Bool.{Bool, true}
-use Rattle.pad.proofs.Laws.Run.{ready_on}
-use Rattle.limits.specs.Lists.{tab, all}
-use mathlib.Core.Path.{◌≡◌}
-use Prim.Native.Nat.{◌+◌, ◌-◌, ◌%◌, ◌≤◌, ◌<◌}
+use Rattle.std.proofs.Common.{◌≡◌, ℕ, ◌+◌, ◌%◌, ◌<◌, true, false, get_or, ◌&&◌}
+use lib.Dec.{ltb}
 use Rattle.pad.proofs.soundpad.ready_run.Given as goal
 
-abbrev pub invariant-loop-n : goal.invariant-loop-n
-invariant-loop-n l = (l.n ≤ l.w) × (l.at ≡ (l.from + l.n) % l.w) × (l.at < l.w) × (all (λ (b : Bool). b) (tab l.n (ready_on l.held l.timers l.w l.from)) ≡ true)
-
-abbrev pub decreases-loop-n : goal.decreases-loop-n
-decreases-loop-n l = l.w - l.n
+abbrev pub invariant-loop-k : goal.invariant-loop-k
+invariant-loop-k l = record {
+  place : l.at ≡ (l.from + l.k) % l.w;
+  below : l.at < l.w;
+  are_ready : (j : ℕ) → j < l.k → (get_or l.held ((l.from + j) % l.w) false && ltb 0 (get_or l.timers ((l.from + j) % l.w) 0)) ≡ true;
+}

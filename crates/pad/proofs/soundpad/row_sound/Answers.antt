@@ -1,10 +1,11 @@
 use Rattle.rows.proofs.Laws.Cells.{legal-one}
 use Rattle.limits.proofs.Laws.Choice.{pick_yes, pick_no}
-use mathlib.Core.Path.{refl, sym, ◌∙◌}
+use mathlib.Core.Bool.{not}
+use mathlib.Core.Path.{refl, sym, ◌∙◌, ap}
 use Rattle.pad.proofs.soundpad.row_sound.Goals as goal
 
-pub returns-then-held : goal.returns-then-held
-returns-then-held c = let a = c.args in c.legal_cells.ensures ∙ legal-one a.cells.now a.at ∙ sym (pick_yes _ _ _ _ c.if-held.true refl)
+pub returns-then-not-held : goal.returns-then-not-held
+returns-then-not-held c = ap not c.if-not-held.true ∙ sym (pick_no _ _ _ _ c.if-not-held.true refl)
 
-pub returns-else-held : goal.returns-else-held
-returns-else-held c = sym (pick_no _ _ _ _ c.if-held.false refl)
+pub returns-else-not-held : goal.returns-else-not-held
+returns-else-not-held c = let a = c.args in c.legal_cells.ensures ∙ legal-one a.cells.now a.at ∙ sym (pick_yes _ _ _ _ c.if-not-held.false refl)

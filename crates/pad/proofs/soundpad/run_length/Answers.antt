@@ -1,16 +1,9 @@
 use Rattle.limits.proofs.Laws.Good.{good}
-use native.Mathlib.Omega.{arith}
-use native.Mathlib.Nat.{mod-lt}
 use Rattle.pad.proofs.Laws.Run.{run_is}
 use Rattle.pad.proofs.Laws.Refused.{run-passes, run_none}
 use Rattle.pad.specs.View.{pad_of, pad_state}
+use native.Mathlib.Omega.{arith}
 use Rattle.pad.proofs.soundpad.run_length.Goals as goal
-
-pub slot-requires : goal.slot-requires
-slot-requires c = let g = good _ c.requires.0 in omega arith
-
-pub ready_run-count-requires : goal.ready_run-count-requires
-ready_run-count-requires c = let g = good _ c.requires.0 in let m = mod-lt c.args.wanted {m = c.args.l.window} (omega arith) in omega arith
 
 pub returns-then-count-eq0 : goal.returns-then-count-eq0
 returns-then-count-eq0 c = let b = c in λ cells.

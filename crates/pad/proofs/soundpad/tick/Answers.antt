@@ -1,11 +1,6 @@
 use Rattle.pad.proofs.Laws.Ticking.{timers-fell}
 use Rattle.pad.specs.View.{pad_of}
-use Rattle.limits.proofs.Laws.Good.{good}
-use native.Mathlib.Omega.{arith}
 use Rattle.pad.proofs.soundpad.tick.Goals as goal
-
-pub fall-requires : goal.fall-requires
-fall-requires c = let g = good _ c.requires in omega arith
 
 pub returns : goal.returns
 returns c = let b = c in
