@@ -1,6 +1,6 @@
-use mathlib.Core.Path.{refl}
 use Rattle.events.specs.Lent.{arrays}
 use Rattle.link.proofs.Laws.Apart.{joins}
+use mathlib.Core.Path.{refl}
 use Rattle.link.proofs.joined.Goals as goal
 
 pub returns : goal.returns

@@ -1,6 +1,6 @@
-use mathlib.Core.Path.{refl}
 use Rattle.runs.specs.View.{Ran}
 use Rattle.link.proofs.Laws.Apart.{apart, together}
+use mathlib.Core.Path.{refl}
 use Rattle.link.proofs.run.Goals as goal
 
 pub returns : goal.returns
