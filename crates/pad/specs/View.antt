@@ -1,14 +1,18 @@
--- How the pad's arrays show its window, and question 4 of a pad.
+-- How the pad's arrays show its window, question 4 of a pad, and what its calls promise.
 -- Free, and not shown: the cells and reply timers of rows not held, and what stands beyond w. Of the timers question 4 asks
 -- that all w are at most the reply wait, and every call keeps that.
-use Rattle.std.specs.Prelude.{ℕ, ◌+◌, ◌*◌, Bool, true, false, ◌&&◌, List, leb, ltb, get_or, replicate}
+use Rattle.std.specs.Prelude.{ℕ, ◌+◌, ◌*◌, Bool, true, false, ◌&&◌, List, Option, Some, None, Result, leb, ltb, get_or, replicate}
 use Rattle.limits.specs.declared.Limits.{Limits}
 use Rattle.limits.specs.Lists.{tab, all}
 use Rattle.limits.specs.Cells.{row_at, legal_row}
-use Rattle.limits.specs.Questions.{pick}
+use Rattle.limits.specs.declared.answer.Refusal.{Refusal}
+use Rattle.limits.specs.Questions.{pick, Question, Answer, Changed}
 use Rattle.limits.specs.Ring.{place}
+use Rattle.limits.specs.Tables.{Reply}
 use Rattle.pad.specs.declared.Pad.{Pad}
+use Rattle.pad.specs.declared.Replied.{Replied}
 use Rattle.pad.specs.Window.{Slot, empty, full, PadState}
+use Rattle.pad.specs.Rules.{Arrival, Replying}
 
 -- the pad of its number and its three arrays
 abbrev pub pad_of : ℕ → List Bool → List ℕ → List ℕ → Pad
@@ -33,3 +37,16 @@ unfoldable pub sound_pad : Limits → Pad → Bool
 sound_pad l p =
     ltb p.wanted (2 * l.window)
     && (all (λ t. leb t l.replywait) (tab l.window (λ i. get_or p.timers i 0)) && all sound_slot (tab l.window (slot_at p)))
+
+-- What the pad's calls promise: the answer, what an Ok holds, and the pad afterwards.
+abbrev pub ArriveCall : Limits → List Question → Result (Option Reply) Refusal → Arrival → Pad → Pad → Type 0
+ArriveCall l questions result done before after =
+    Changed questions result (pick done.old (Some done.reply) None) (pad_state l.window after) done.state (sound_pad l) before after
+
+abbrev pub ReplyCall : Limits → List Question → Result Replied Refusal → Replying → Pad → Pad → Type 0
+ReplyCall l questions result done before after =
+    Changed questions result (record { count = done.count; reply = done.reply }) (pad_state l.window after) done.state (sound_pad l) before after
+
+abbrev pub TickCall : Limits → List Question → Answer → PadState → Pad → Pad → Type 0
+TickCall l questions result done before after =
+    Changed questions result tt (pad_state l.window after) done (sound_pad l) before after

@@ -3,11 +3,11 @@
 #![tactic(auto)]
 
 ghost use Rattle.std.specs.Prelude.{◌≡◌, ◌&&◌, [], ◌∷◌, length, MatchResult};
-ghost use Rattle.limits.specs.Questions.{pick, ask, Answered, Changed, time_questions};
+ghost use Rattle.limits.specs.Questions.{ask, Answered, time_questions};
 ghost use Rattle.limits.specs.Limits.{sound_limits};
 ghost use Rattle.limits.specs.Tables.{sound_data};
 ghost use Rattle.pad.specs.Rules.{arrival, run, run_questions, reply_questions, replying, ticked};
-ghost use Rattle.pad.specs.View.{pad_state, fresh_pad, sound_pad};
+ghost use Rattle.pad.specs.View.{pad_state, fresh_pad, sound_pad, ArriveCall, ReplyCall, TickCall};
 
 pub mod soundpad;
 
@@ -54,10 +54,9 @@ impl Pad {
 
     // Data arrives: 4. The row is held, or it is an old one and the reply to put for it is given.
     pub fn arrive(&mut self, l: Limits, data: Data) -> Result<Option<Reply>, Refusal>
-        ensures { let done = arrival l (pad_state l.window self.old) «data» in
-            Changed (ask 4 (sound_limits l && (sound_pad l self.old && sound_data l «data»)) ∷ [])
-            result (pick done.old (Some done.reply) None) (pad_state l.window self.new) done.state
-            (sound_pad l) self.old self.new }
+        ensures { ArriveCall l
+            (ask 4 (sound_limits l && (sound_pad l self.old && sound_data l «data»)) ∷ [])
+            result (arrival l (pad_state l.window self.old) «data») self.old self.new }
     {
         if !self.is_sound(l) {
             return Err(Refusal::Unsound);
@@ -78,8 +77,9 @@ impl Pad {
 
     // How many rows a reply would record: 4, 20.
     pub fn run_length(&self, l: Limits) -> Result<usize, Refusal>
-        ensures { let s = pad_state l.window self.now in
-            Answered (ask 4 (sound_limits l && sound_pad l self.now) ∷ run_questions s) result (run s) }
+        ensures { Answered
+            (ask 4 (sound_limits l && sound_pad l self.now) ∷ run_questions (pad_state l.window self.now))
+            result (run (pad_state l.window self.now)) }
     {
         if !self.is_sound(l) {
             return Err(Refusal::Unsound);
@@ -89,10 +89,9 @@ impl Pad {
 
     // A reply for the run of rows at wanted, which are written to the record's front: 4, 20, 21.
     pub fn reply(&mut self, l: Limits, record: &mut [u16]) -> Result<Replied, Refusal>
-        ensures pad { let s = pad_state l.window self.old in let done = replying l s «record».old in
-            Changed (ask 4 (sound_limits l && sound_pad l self.old) ∷ reply_questions s (length «record».old))
-            result (record { count = done.count; reply = done.reply }) (pad_state l.window self.new) done.state
-            (sound_pad l) self.old self.new }
+        ensures pad { ReplyCall l
+            (ask 4 (sound_limits l && sound_pad l self.old) ∷ reply_questions (pad_state l.window self.old) (length «record».old))
+            result (replying l (pad_state l.window self.old) «record».old) self.old self.new }
         ensures rows { MatchResult result
             (λ _. «record».new ≡ (replying l (pad_state l.window self.old) «record».old).buffer)
             (λ _. «record».new ≡ «record».old) }
@@ -113,9 +112,9 @@ impl Pad {
 
     // Every reply timer falls by d: 4, 9.
     pub fn tick(&mut self, l: Limits, d: u16) -> Result<(), Refusal>
-        ensures { let s = pad_state l.window self.old in
-            Changed (ask 4 (sound_limits l && sound_pad l self.old) ∷ time_questions d)
-            result tt (pad_state l.window self.new) (ticked d s) (sound_pad l) self.old self.new }
+        ensures { TickCall l
+            (ask 4 (sound_limits l && sound_pad l self.old) ∷ time_questions d)
+            result (ticked d (pad_state l.window self.old)) self.old self.new }
     {
         if !self.is_sound(l) {
             return Err(Refusal::Unsound);

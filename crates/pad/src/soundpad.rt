@@ -1,5 +1,6 @@
 // Inner: called by the pad's public calls, events and runs. The pad's events where question 4 has been put and passed. Each takes
 // the numbers and arrays that it needs; arrays are lent and change in place.
+// Stays (C interface): functions over numbers and lent arrays, since C lends the members of its own struct.
 #![tactic(auto, using(limits::proofs::Laws::Good::good))]
 
 ghost use Rattle.std.specs.Prelude.{◌≡◌, Bool, true, false, ◌&&◌, List, ◌++◌, ℕ, ◌+◌, ◌*◌, ◌%◌, ◌<◌, ◌≤◌, ltb, length, get_or, drop, IsTrue, ◌↔◌};
