@@ -7,8 +7,7 @@ mod print;
 
 ghost use Rattle.std.specs.Prelude.{◌≡◌};
 
-use frames::{DataFrame, ReplyFrame};
-use limits::answer::Refusal;
+use frames::{DataFrame, Frame, ReplyFrame};
 use print::number;
 use std::io;
 use std::io::Read;
@@ -19,48 +18,43 @@ fn wide(x: u8) -> usize
     x as usize
 }
 
-fn data(rt: &impl Print, f: DataFrame) -> io::Result<()> {
-    let row = f.row;
+fn data(rt: &impl Print, f: &DataFrame) -> io::Result<()> {
     number(rt, f.life as u64)?;
     number(rt, f.window as u64)?;
-    number(rt, f.number as u64)?;
-    print::cells(rt, &row)?;
-    let mut buffer = [0u8; 40];
-    let w = frames::write_data(f, &mut buffer);
-    let answer = w.answer;
-    number(rt, limits::answer::number(&answer) as u64)?;
-    number(rt, w.count as u64)?;
-    print::bytes(rt, &buffer)
+    number(rt, f.data.number as u64)?;
+    print::cells(rt, &f.data.row)
 }
 
-fn reply(rt: &impl Print, f: ReplyFrame) -> io::Result<()> {
+fn reply(rt: &impl Print, f: &ReplyFrame) -> io::Result<()> {
     number(rt, f.life as u64)?;
     number(rt, f.window as u64)?;
-    number(rt, f.first as u64)?;
-    number(rt, f.last as u64)?;
-    let mut buffer = [0u8; 8];
-    let w = frames::write_reply(f, &mut buffer);
-    let answer = w.answer;
-    number(rt, limits::answer::number(&answer) as u64)?;
-    number(rt, w.count as u64)?;
-    print::bytes(rt, &buffer)
+    number(rt, f.reply.first as u64)?;
+    number(rt, f.reply.last as u64)
 }
 
-fn one(rt: &impl Print, frame: &[u8]) -> io::Result<()> {
-    let r = frames::read(frame);
-    let answer = r.answer;
-    let kind = r.kind;
-    number(rt, limits::answer::number(&answer) as u64)?;
-    number(rt, kind as u64)?;
-    let Ok(()) = answer else {
-        return print::end(rt);
-    };
-    if kind == 1 {
-        let f = r.dataframe;
-        data(rt, f)?;
-    } else {
-        let f = r.replyframe;
-        reply(rt, f)?;
+// What the writer makes of a frame.
+fn written(rt: &impl Print, frame: &Frame, buffer: &mut [u8]) -> io::Result<()> {
+    let written = frames::write(frame, buffer);
+    number(rt, limits::answer::number(&written) as u64)?;
+    number(rt, written.unwrap_or(0) as u64)?;
+    print::bytes(rt, buffer)
+}
+
+fn one(rt: &impl Print, bytes: &[u8]) -> io::Result<()> {
+    let read = frames::read(bytes);
+    number(rt, limits::answer::number(&read) as u64)?;
+    match read {
+        Ok(Frame::Data(f)) => {
+            number(rt, 1)?;
+            data(rt, &f)?;
+            written(rt, &Frame::Data(f), &mut [0; 40])?;
+        }
+        Ok(Frame::Reply(f)) => {
+            number(rt, 2)?;
+            reply(rt, &f)?;
+            written(rt, &Frame::Reply(f), &mut [0; 8])?;
+        }
+        Err(_) => number(rt, 0)?,
     }
     print::end(rt)
 }
