@@ -2,10 +2,13 @@
 #![tactic(auto)]
 
 ghost use Rattle.std.specs.Prelude.{◌≡◌, ◌<◌};
-ghost use Rattle.cframes.specs.Frames.{ReadFrame, WriteFrame};
+ghost use Rattle.limits.specs.Questions.{Answered};
+ghost use Rattle.buffers.specs.Buffers.{WriteCall};
+ghost use Rattle.cframes.specs.Frames.{kind_questions, frame_in, write_questions, frame_into, ReadFrame, WriteFrame};
 
-use frames::{DataFrame, ReplyFrame};
+use frames::{DataFrame, Frame, ReplyFrame};
 use limits::answer::Refusal;
+use limits::messages::{Data, Reply};
 
 fn narrow(x: usize) -> u16
     requires { x < 65536 }
@@ -25,22 +28,55 @@ fn wide(x: u16) -> usize
 pub fn read(frame: &[u8], head: &mut [u16; 5], cells: &mut [u16; 16]) -> u8
     ensures { ReadFrame frame.now head.old cells.old head.new cells.new result }
 {
-    let got = frames::read(frame);
-    let answer = got.answer;
-    let Ok(()) = answer else {
-        return limits::answer::number(&answer);
-    };
-    let f = got.dataframe;
-    let row = f.row;
-    *cells = row;
-    if got.kind == 1 {
-        *head = [1, f.life, narrow(f.window), narrow(f.number), 0];
-        0
-    } else {
-        let g = got.replyframe;
-        *head = [2, g.life, narrow(g.window), narrow(g.first), narrow(g.last)];
-        0
+    match frames::read(frame) {
+        Ok(Frame::Data(f)) => {
+            let Data { number, row } = f.data;
+            *head = [1, f.life, narrow(f.window), narrow(number), 0];
+            *cells = row;
+            0
+        }
+        Ok(Frame::Reply(f)) => {
+            let Reply { first, last } = f.reply;
+            *head = [2, f.life, narrow(f.window), narrow(first), narrow(last)];
+            *cells = [0; 16];
+            0
+        }
+        Err(refusal) => u8::from(refusal),
     }
+}
+
+// The frame that head and cells make: 22 of a kind other than 1 and 2.
+fn frame_in(head: &[u16; 5], cells: &[u16; 16]) -> Result<Frame, Refusal>
+    ensures { Answered (kind_questions head.now) result (frame_in head.now cells.now) }
+{
+    let [kind, life, window, first, last] = *head;
+    match kind {
+        1 => Ok(Frame::Data(DataFrame {
+            life,
+            window: wide(window),
+            data: Data {
+                number: wide(first),
+                row: *cells,
+            },
+        })),
+        2 => Ok(Frame::Reply(ReplyFrame {
+            life,
+            window: wide(window),
+            reply: Reply {
+                first: wide(first),
+                last: wide(last),
+            },
+        })),
+        _ => Err(Refusal::UnknownFrame),
+    }
+}
+
+fn written(head: &[u16; 5], cells: &[u16; 16], buffer: &mut [u8]) -> Result<usize, Refusal>
+    ensures { WriteCall (write_questions head.now cells.now buffer.old)
+        (frame_into head.now cells.now buffer.old) result buffer.old buffer.new }
+{
+    let frame = frame_in(head, cells)?;
+    frames::write(&frame, buffer)
 }
 
 // 22 of a kind other than 1 and 2, then the writer's questions of the frame that head and cells make. `count` gets the bytes
@@ -48,33 +84,7 @@ pub fn read(frame: &[u8], head: &mut [u16; 5], cells: &mut [u16; 16]) -> u8
 pub fn write(head: &[u16; 5], cells: &[u16; 16], buffer: &mut [u8], count: &mut usize) -> u8
     ensures { WriteFrame head.now cells.now buffer.old buffer.new count.new result }
 {
-    let h = *head;
-    let kind = h[0];
-    if kind == 1 {
-        let row = *cells;
-        let f = DataFrame {
-            life: h[1],
-            window: wide(h[2]),
-            number: wide(h[3]),
-            row,
-        };
-        let written = frames::write_data(f, buffer);
-        *count = written.count;
-        let answer = written.answer;
-        limits::answer::number(&answer)
-    } else if kind == 2 {
-        let f = ReplyFrame {
-            life: h[1],
-            window: wide(h[2]),
-            first: wide(h[3]),
-            last: wide(h[4]),
-        };
-        let written = frames::write_reply(f, buffer);
-        *count = written.count;
-        let answer = written.answer;
-        limits::answer::number(&answer)
-    } else {
-        *count = 0;
-        22
-    }
+    let written = written(head, cells, buffer);
+    *count = written.unwrap_or(0);
+    limits::answer::number(&written)
 }

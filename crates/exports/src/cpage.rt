@@ -10,7 +10,6 @@ pub fn matlink_page(record: &[u16], page: u64, buffer: &mut [u8], count: &mut u6
         buffer.old buffer.new count.new result }
 {
     let written = page::page(record, page as usize, buffer);
-    *count = written.count as u64;
-    let answer = written.answer;
-    limits::answer::number(&answer)
+    *count = written.unwrap_or(0) as u64;
+    limits::answer::number(&written)
 }
