@@ -1,7 +1,7 @@
 -- Bytes written into a buffer, and what writers promise.
-use Rattle.std.specs.Prelude.{ℕ, ◌+◌, ◌≡◌, List, ◌++◌, eqb, length, take, drop}
-use Rattle.limits.specs.Questions.{pick, Question, first_no, Answers}
-use Rattle.buffers.specs.declared.Written.{Written}
+use Rattle.std.specs.Prelude.{ℕ, ◌+◌, ◌≡◌, List, ◌++◌, eqb, length, take, drop, Result, OnOk, OnErr}
+use Rattle.limits.specs.declared.answer.Refusal.{Refusal}
+use Rattle.limits.specs.Questions.{pick, Question, first_no, Answered}
 
 -- what a buffer holds once `text` is written at `at`
 unfoldable pub wrote : ℕ → List ℕ → List ℕ → List ℕ
@@ -20,11 +20,13 @@ pub record Writing : Type 0 where
 abbrev pub writing : ℕ → List ℕ → Writing
 writing n bytes = record { count = n; buffer = bytes }
 
--- A refused write counts 0 bytes and leaves the buffer as it was.
-abbrev pub WriteCall : List Question → Writing → Written → List ℕ → List ℕ → Type 0
-WriteCall questions done r entry exit = Answers questions r.answer (writing r.count exit) done (writing 0 entry)
+-- A public writer answers with the count. A refused write leaves the buffer as it was.
+pub record WriteCall (questions : List Question) (done : Writing) (result : Result ℕ Refusal) (before after : List ℕ) : Type 0 where
+  pub answered : Answered questions result done.count
+  pub left : OnOk result (after ≡ done.buffer)
+  pub kept : OnErr result (after ≡ before)
 
--- The same of a function for C, which returns the answer's number.
+-- The same of a function for C, which returns the answer's number: a refused write counts 0 bytes.
 pub record WriteNumber (questions : List Question) (done : Writing) (before after : List ℕ) (count r : ℕ) : Type 0 where
   pub number : r ≡ first_no questions
   pub result : writing count after ≡ pick (eqb (first_no questions) 0) done (writing 0 before)

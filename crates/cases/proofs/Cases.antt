@@ -69,6 +69,6 @@ cases w some most =
     then (refl, refl)
     then (refl, refl)
     -- J
-    then (refl, refl, refl)
+    then (refl, refl)
     then refl
     then tt

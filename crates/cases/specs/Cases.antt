@@ -9,7 +9,8 @@ use Rattle.limits.specs.Events.{events}
 use Rattle.mat.specs.Window.{outstanding}
 use Rattle.pad.specs.Window.{Slot, empty, full, PadState}
 use Rattle.pad.specs.Rules.{Arrival, arrival}
-use Rattle.frames.specs.declared.ReplyFrame.{ReplyFrame}
+use Rattle.frames.specs.declared.Frame.{Frame}
+use Rattle.frames.specs.declared.Frame.TheVariants as frame_of
 use Rattle.frames.specs.Layout.{reading}
 use Rattle.frames.specs.Rules.{read_questions}
 use Rattle.unbounded.specs.Ends.{Ends, fresh}
@@ -132,12 +133,14 @@ abbrev pub built_ends : ℕ → List ℕ → Seen
 built_ends w bytes =
     seen_built (built.answers supply (start (limits w 4)) (events bytes)) (built.after_all supply (start (limits w 4)) (events bytes))
 
-abbrev pub span_of : ReplyFrame → ℕ
-span_of f = span f.window (record { first = f.first; last = f.last })
+-- the frame is a reply frame, with this span
+abbrev pub HasSpan : Frame → ℕ → Type 0
+HasSpan (frame_of.Data f) n = ⊥
+HasSpan (frame_of.Reply f) n = span f.window f.reply ≡ n
 
 abbrev pub Reads : List ℕ → Outcome → Type 0
 Reads bytes (refused n) = first_no (read_questions bytes) ≡ n
-Reads bytes (done n) = (first_no (read_questions bytes) ≡ 0) × ((reading bytes).kind ≡ 2) × (span_of (reading bytes).replyframe ≡ n)
+Reads bytes (done n) = (first_no (read_questions bytes) ≡ 0) × HasSpan (reading bytes) n
 
 abbrev pub Holds : Case → Type 0
 Holds (opening w wait o) = Opens (limits w wait) o

@@ -11,7 +11,6 @@ pub fn matlink_page(record: &[u16], page: u64, buffer: &mut [u8], count: &mut u6
 {
     // Stays (no plainer): std has no From between u64 and usize, which are of one width here.
     let written = page::page(record, page as usize, buffer);
-    *count = written.count as u64;
-    let answer = written.answer;
-    limits::answer::number(&answer)
+    *count = written.unwrap_or(0) as u64;
+    limits::answer::number(&written)
 }

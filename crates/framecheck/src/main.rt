@@ -3,8 +3,7 @@
 // Each line: the answer; kind, life, w and numbers; the cells of a data frame; then the bytes written from these values.
 #![tactic(auto)]
 
-use frames::{DataFrame, ReplyFrame};
-use limits::answer::Refusal;
+use frames::{DataFrame, Frame, ReplyFrame};
 use std::fmt::Display;
 use std::io;
 use std::io::Read;
@@ -17,38 +16,35 @@ fn numbers<T: Display>(rt: &impl Print, numbers: &[T]) -> io::Result<()> {
     Ok(())
 }
 
-fn data(rt: &impl Print, f: DataFrame) -> io::Result<()> {
-    print!(rt; "{} {} {} ", f.life, f.window, f.number)?;
-    let row = f.row;
-    numbers(rt, &row)?;
-    let mut buffer = [0u8; 40];
-    let w = frames::write_data(f, &mut buffer);
-    print!(rt; "{} {} ", limits::answer::number(w.answer), w.count)?;
-    numbers(rt, &buffer)
+fn data(rt: &impl Print, f: &DataFrame) -> io::Result<()> {
+    print!(rt; "1 {} {} {} ", f.life, f.window, f.data.number)?;
+    numbers(rt, &f.data.row)
 }
 
-fn reply(rt: &impl Print, f: ReplyFrame) -> io::Result<()> {
-    print!(rt; "{} {} {} {} ", f.life, f.window, f.first, f.last)?;
-    let mut buffer = [0u8; 8];
-    let w = frames::write_reply(f, &mut buffer);
-    print!(rt; "{} {} ", limits::answer::number(w.answer), w.count)?;
-    numbers(rt, &buffer)
+fn reply(rt: &impl Print, f: &ReplyFrame) -> io::Result<()> {
+    print!(rt; "2 {} {} {} {} ", f.life, f.window, f.reply.first, f.reply.last)
 }
 
-fn one(rt: &impl Print, frame: &[u8]) -> io::Result<()> {
-    let r = frames::read(frame);
-    let answer = r.answer;
-    let kind = r.kind;
-    print!(rt; "{} {} ", limits::answer::number(&answer), kind)?;
-    let Ok(()) = answer else {
-        return println!(rt);
-    };
-    if kind == 1 {
-        let f = r.dataframe;
-        data(rt, f)?;
-    } else {
-        let f = r.replyframe;
-        reply(rt, f)?;
+// What the writer makes of a frame.
+fn written(rt: &impl Print, frame: &Frame, buffer: &mut [u8]) -> io::Result<()> {
+    let written = frames::write(frame, buffer);
+    print!(rt; "{} {} ", limits::answer::number(&written), written.unwrap_or(0))?;
+    numbers(rt, buffer)
+}
+
+fn one(rt: &impl Print, bytes: &[u8]) -> io::Result<()> {
+    let read = frames::read(bytes);
+    print!(rt; "{} ", limits::answer::number(&read))?;
+    match read {
+        Ok(Frame::Data(f)) => {
+            data(rt, &f)?;
+            written(rt, &Frame::Data(f), &mut [0; 40])?;
+        }
+        Ok(Frame::Reply(f)) => {
+            reply(rt, &f)?;
+            written(rt, &Frame::Reply(f), &mut [0; 8])?;
+        }
+        Err(_) => print!(rt; "0 ")?,
     }
     println!(rt)
 }

@@ -7,7 +7,7 @@ use Rattle.limits.specs.Questions.{pick, first_no}
 use Rattle.limits.specs.Lists.{tab, all}
 use Rattle.limits.specs.Cells.{legal_cell}
 use Rattle.limits.specs.Limits.{window_fits}
-use Rattle.frames.specs.Layout.{data_read}
+use Rattle.frames.specs.declared.Frame.TheVariants.{Data}
 use Rattle.frames.specs.Rules.{read_questions}
 use Rattle.frames.specs.Meanings.{ReadAs}
 
@@ -16,7 +16,7 @@ abbrev data_frame : ℕ → ℕ → ℕ → List ℕ → List ℕ
 data_frame life w number two = (1 ∷ life ∷ w ∷ number ∷ two) ++ replicate 28 0
 
 pub data-read : ReadAs (data_frame 250 32 63 (255 ∷ 15 ∷ 0 ∷ 1 ∷ []))
-    (data_read (record { life = 250; window = 32; number = 63; row = (4095 ∷ 256 ∷ []) ++ replicate 14 0 }))
+    (Data (record { life = 250; window = 32; «data» = record { number = 63; row = (4095 ∷ 256 ∷ []) ++ replicate 14 0 } }))
 unfolding pick all tab window_fits legal_cell
 data-read = record { accepted = refl; means = refl }
 

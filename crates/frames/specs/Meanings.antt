@@ -1,24 +1,33 @@
--- What the theorems on frames speak of: bytes that are read as something, and the bytes that are written of it.
-use Rattle.std.specs.Prelude.{ℕ, ◌<◌, ◌≡◌, List, eqb}
-use Rattle.limits.specs.Questions.{pick, first_no}
-use Rattle.frames.specs.Layout.{byte, data_bytes, reply_bytes, Reading, reading}
-use Rattle.frames.specs.Rules.{read_questions}
+-- What the theorems on frames speak of: frames as the language holds them, and bytes that are read as a frame.
+use Rattle.std.specs.Prelude.{ℕ, ◌<◌, ◌≡◌, List, length}
+use Rattle.limits.specs.Questions.{first_no}
+use Rattle.frames.specs.declared.Frame.{Frame}
+use Rattle.frames.specs.declared.Frame.TheVariants.{Data, Reply}
+use Rattle.frames.specs.Layout.{byte, bytes_of, reading}
+use Rattle.frames.specs.Rules.{value_questions, read_questions}
 
 -- what a `&[u8]` holds
 abbrev pub Bytes : List ℕ → Type 0
 Bytes bytes = (i : ℕ) → byte bytes i < 256
 
--- read accepts the bytes, and gives r
-pub record ReadAs (bytes : List ℕ) (r : Reading) : Type 0 where
-  pub accepted : first_no (read_questions bytes) ≡ 0
-  pub means : reading bytes ≡ r
+-- a row is the 16 cells of an array
+abbrev pub HasRow : Frame → Type 0
+HasRow (Data f) = length f.data.row ≡ 16
+HasRow (Reply f) = Unit {0}
 
--- some bytes are read as r
-pub record Readable (r : Reading) : Type 0 where
+-- read accepts the bytes, and gives f
+pub record ReadAs (bytes : List ℕ) (f : Frame) : Type 0 where
+  pub accepted : first_no (read_questions bytes) ≡ 0
+  pub means : reading bytes ≡ f
+
+-- write accepts f for a buffer that is long enough, and gives the bytes
+pub record WrittenAs (f : Frame) (bytes : List ℕ) : Type 0 where
+  pub row : HasRow f
+  pub accepted : first_no (value_questions f) ≡ 0
+  pub gives : bytes_of f ≡ bytes
+
+-- some bytes are read as f
+pub record Readable (f : Frame) : Type 0 where
   pub bytes : List ℕ
   pub small : Bytes bytes
-  pub read : ReadAs bytes r
-
--- the bytes that write makes of what was read
-abbrev pub bytes_of : Reading → List ℕ
-bytes_of r = pick (eqb r.kind 1) (data_bytes r.dataframe) (reply_bytes r.replyframe)
+  pub read : ReadAs bytes f

@@ -4,7 +4,7 @@
 ghost use Rattle.std.specs.Prelude.{◌≤◌, ◌%◌, ◌/◌, ◌≡◌, [], ◌∷◌, ◌++◌, length, take, drop};
 ghost use Rattle.limits.specs.Answer.{number_of};
 ghost use Rattle.limits.specs.Lists.{tab};
-ghost use Rattle.limits.specs.Questions.{first_no};
+ghost use Rattle.limits.specs.Questions.{Answered, first_no};
 ghost use Rattle.frames.specs.Layout.{
   byte,
   cell_at,
@@ -14,102 +14,91 @@ ghost use Rattle.frames.specs.Layout.{
   data_of,
   reply_of,
   reading,
-  no_data_frame,
-  no_reply_frame,
+  size_of,
+  frame_into,
 };
 ghost use Rattle.frames.specs.Rules.{
   frame_questions,
   data_questions,
   reply_questions,
+  value_questions,
+  layout_questions,
   read_questions,
-  write_data_questions,
-  write_reply_questions,
-  ReadCall,
+  write_questions,
 };
 ghost use Rattle.buffers.specs.Buffers.{writing, WriteCall};
 
-use buffers::Written;
 use limits::answer::Refusal;
+use limits::messages::{Data, Reply};
 use std::array;
 
-// A row under its number (a data packet).
-#[derive(Clone, Copy)]
+#[derive(Clone, Copy, Debug, PartialEq, Eq)]
 pub struct DataFrame {
     pub life: u16,
     pub window: usize,
-    pub number: usize,
-    pub row: [u16; 16],
+    pub data: Data,
 }
 
-// The numbers from first to last (a block acknowledgment).
-#[derive(Clone, Copy)]
+#[derive(Clone, Copy, Debug, PartialEq, Eq)]
 pub struct ReplyFrame {
     pub life: u16,
     pub window: usize,
-    pub first: usize,
-    pub last: usize,
+    pub reply: Reply,
 }
 
-// `kind` is the first byte: 1 gives `dataframe`, 2 gives `replyframe`, and the other one is zeros. It is 0 where the answer is no.
-#[derive(Clone, Copy)]
-pub struct FrameRead {
-    pub answer: Result<(), Refusal>,
-    pub kind: u8,
-    pub dataframe: DataFrame,
-    pub replyframe: ReplyFrame,
+// A message in the air, with the life that is left to it and its link's window. The first byte tells which: 1 or 2.
+#[derive(Clone, Copy, Debug, PartialEq, Eq)]
+pub enum Frame {
+    Data(DataFrame),
+    Reply(ReplyFrame),
 }
 
 // 24, 25, 26 of a frame with the numbers first and last.
 fn frame_answer(window: usize, first: usize, last: usize, life: u16) -> Result<(), Refusal>
     ensures { number_of result ≡ first_no (frame_questions window (first ∷ last ∷ []) life) }
 {
-    if limits::window_fits(window) {
-        if first < 2 * window {
-            if last < 2 * window {
-                if limits::within(1, 250, life) {
-                    Ok(())
-                } else {
-                    Err(Refusal::BadFrameLife)
-                }
-            } else {
-                Err(Refusal::BadFrameNumber)
-            }
-        } else {
-            Err(Refusal::BadFrameNumber)
-        }
-    } else {
-        Err(Refusal::BadFrameWindow)
+    if !limits::window_fits(window) {
+        return Err(Refusal::BadFrameWindow);
     }
+    if first >= 2 * window || last >= 2 * window {
+        return Err(Refusal::BadFrameNumber);
+    }
+    if !limits::within(1, 250, life) {
+        return Err(Refusal::BadFrameLife);
+    }
+    Ok(())
 }
 
 // 24, 25, 26, 12.
-fn data_answer(f: DataFrame) -> Result<(), Refusal>
-    ensures { number_of result ≡ first_no (data_questions f) }
+fn data_answer(f: &DataFrame) -> Result<(), Refusal>
+    ensures { number_of result ≡ first_no (data_questions f.now) }
 {
-    let answer = frame_answer(f.window, f.number, f.number, f.life);
-    let Ok(()) = answer else {
-        return answer;
-    };
-    let row = f.row;
-    if rows::legal_row(row) {
-        Ok(())
-    } else {
-        Err(Refusal::IllegalCell)
+    frame_answer(f.window, f.data.number, f.data.number, f.life)?;
+    if !rows::legal_row(f.data.row) {
+        return Err(Refusal::IllegalCell);
     }
+    Ok(())
 }
 
 // 24, 25, 26, 27.
-fn reply_answer(f: ReplyFrame) -> Result<(), Refusal>
-    ensures { number_of result ≡ first_no (reply_questions f) }
+fn reply_answer(f: &ReplyFrame) -> Result<(), Refusal>
+    ensures { number_of result ≡ first_no (reply_questions f.now) }
 {
-    let answer = frame_answer(f.window, f.first, f.last, f.life);
-    let Ok(()) = answer else {
-        return answer;
-    };
-    if limits::ring::gap(2 * f.window, f.first, f.last) < f.window {
-        Ok(())
-    } else {
-        Err(Refusal::BadFrameSpan)
+    let Reply { first, last } = f.reply;
+    frame_answer(f.window, first, last, f.life)?;
+    if limits::ring::gap(2 * f.window, first, last) >= f.window {
+        return Err(Refusal::BadFrameSpan);
+    }
+    Ok(())
+}
+
+// The questions of the values: 24, 25, 26, then 12 or 27.
+fn value_answer(frame: &Frame) -> Result<(), Refusal>
+    ensures { number_of result ≡ first_no (value_questions frame.now) }
+{
+    match frame {
+        Frame::Data(f) => data_answer(f),
+        Frame::Reply(f) => reply_answer(f),
     }
 }
 
@@ -128,8 +117,10 @@ fn data_of(bytes: &[u8]) -> DataFrame
     DataFrame {
         life: u16::from(bytes[1]),
         window: usize::from(bytes[2]),
-        number: usize::from(bytes[3]),
-        row,
+        data: Data {
+            number: usize::from(bytes[3]),
+            row,
+        },
     }
 }
 
@@ -140,104 +131,35 @@ fn reply_of(bytes: &[u8]) -> ReplyFrame
     ReplyFrame {
         life: u16::from(bytes[1]),
         window: usize::from(bytes[2]),
-        first: usize::from(bytes[3]),
-        last: usize::from(bytes[4]),
+        reply: Reply {
+            first: usize::from(bytes[3]),
+            last: usize::from(bytes[4]),
+        },
     }
 }
 
-fn no_data() -> DataFrame
-    ensures { result ≡ no_data_frame }
+// The frame that the bytes are laid out as: 22, 23.
+fn laid_out(bytes: &[u8]) -> Result<Frame, Refusal>
+    ensures { Answered (layout_questions bytes.now) result (reading bytes.now) }
 {
-    DataFrame {
-        life: 0,
-        window: 0,
-        number: 0,
-        row: [0; 16],
+    if bytes.is_empty() {
+        return Err(Refusal::UnknownFrame);
+    }
+    match (bytes[0], bytes.len()) {
+        (1, 36) => Ok(Frame::Data(data_of(bytes))),
+        (2, 5) => Ok(Frame::Reply(reply_of(bytes))),
+        (1 | 2, _) => Err(Refusal::BadFrameLength),
+        _ => Err(Refusal::UnknownFrame),
     }
 }
 
-fn no_reply() -> ReplyFrame
-    ensures { result ≡ no_reply_frame }
+// Any bytes, none too: 22, 23, 24, 25, 26, then 12 or 27.
+pub fn read(bytes: &[u8]) -> Result<Frame, Refusal>
+    ensures { Answered (read_questions bytes.now) result (reading bytes.now) }
 {
-    ReplyFrame {
-        life: 0,
-        window: 0,
-        first: 0,
-        last: 0,
-    }
-}
-
-fn refused(answer: Result<(), Refusal>) -> FrameRead
-    ensures { result ≡ record { answer = answer; kind = 0; dataframe = no_data_frame; replyframe = no_reply_frame } }
-{
-    FrameRead {
-        answer,
-        kind: 0,
-        dataframe: no_data(),
-        replyframe: no_reply(),
-    }
-}
-
-// 23 and the values of a frame whose first byte is 1.
-fn read_data(bytes: &[u8]) -> FrameRead
-    requires { byte bytes.now 0 ≡ 1 }
-    ensures { ReadCall (read_questions bytes.now) (reading bytes.now) result }
-{
-    if bytes.len() == 36 {
-        let frame = data_of(bytes);
-        let answer = data_answer(frame);
-        let Ok(()) = answer else {
-            return refused(answer);
-        };
-        FrameRead {
-            answer: Ok(()),
-            kind: 1,
-            dataframe: frame,
-            replyframe: no_reply(),
-        }
-    } else {
-        refused(Err(Refusal::BadFrameLength))
-    }
-}
-
-// 23 and the values of a frame whose first byte is 2.
-fn read_reply(bytes: &[u8]) -> FrameRead
-    requires { byte bytes.now 0 ≡ 2 }
-    ensures { ReadCall (read_questions bytes.now) (reading bytes.now) result }
-{
-    if bytes.len() == 5 {
-        let frame = reply_of(bytes);
-        let answer = reply_answer(frame);
-        let Ok(()) = answer else {
-            return refused(answer);
-        };
-        FrameRead {
-            answer: Ok(()),
-            kind: 2,
-            dataframe: no_data(),
-            replyframe: frame,
-        }
-    } else {
-        refused(Err(Refusal::BadFrameLength))
-    }
-}
-
-// Any bytes, none too: 22, 23, 24, 25, 26, 27, 12.
-pub fn read(bytes: &[u8]) -> FrameRead
-    ensures { ReadCall (read_questions bytes.now) (reading bytes.now) result }
-{
-    if 1 <= bytes.len() {
-        let kind = bytes[0];
-        if kind == 1 {
-            read_data(bytes)
-        } else if kind == 2 {
-            read_reply(bytes)
-        } else {
-            refused(Err(Refusal::UnknownFrame))
-        }
-    } else {
-        refused(Err(Refusal::UnknownFrame))
-    }
+    let frame = laid_out(bytes)?;
+    value_answer(&frame)?;
+    Ok(frame)
 }
 
 // The cells of a data frame, from byte 4 on.
@@ -252,65 +174,50 @@ fn put_cells(buffer: &mut [u8], row: [u16; 16])
     }
 }
 
-fn put_data(f: DataFrame, buffer: &mut [u8])
-    requires { (first_no (data_questions f) ≡ 0) × (36 ≤ length buffer.old) }
-    ensures { buffer.new ≡ data_into f buffer.old }
+fn put_data(f: &DataFrame, buffer: &mut [u8])
+    requires { (first_no (data_questions f.now) ≡ 0) × (36 ≤ length buffer.old) }
+    ensures { buffer.new ≡ data_into f.now buffer.old }
 {
-    let row = f.row;
     buffer[0] = 1;
     buffer[1] = f.life as u8;
     buffer[2] = f.window as u8;
-    buffer[3] = f.number as u8;
-    put_cells(buffer, row);
+    buffer[3] = f.data.number as u8;
+    put_cells(buffer, f.data.row);
 }
 
-fn put_reply(f: ReplyFrame, buffer: &mut [u8])
-    requires { (first_no (reply_questions f) ≡ 0) × (5 ≤ length buffer.old) }
-    ensures { buffer.new ≡ reply_into f buffer.old }
+fn put_reply(f: &ReplyFrame, buffer: &mut [u8])
+    requires { (first_no (reply_questions f.now) ≡ 0) × (5 ≤ length buffer.old) }
+    ensures { buffer.new ≡ reply_into f.now buffer.old }
 {
     buffer[0] = 2;
     buffer[1] = f.life as u8;
     buffer[2] = f.window as u8;
-    buffer[3] = f.first as u8;
-    buffer[4] = f.last as u8;
+    buffer[3] = f.reply.first as u8;
+    buffer[4] = f.reply.last as u8;
 }
 
-// 24, 25, 26, 12, 28.
-pub fn write_data(f: DataFrame, buffer: &mut [u8]) -> Written
-    ensures { WriteCall (write_data_questions f buffer.old)
-        (writing 36 (data_into f buffer.old)) result buffer.old buffer.new }
+fn size_of(frame: &Frame) -> usize
+    ensures { result ≡ size_of frame.now }
 {
-    let answer = data_answer(f);
-    let Ok(()) = answer else {
-        return buffers::not_written(answer);
-    };
-    if 36 <= buffer.len() {
-        put_data(f, buffer);
-        Written {
-            answer: Ok(()),
-            count: 36,
-        }
-    } else {
-        buffers::not_written(Err(Refusal::ShortBuffer))
+    match frame {
+        Frame::Data(_) => 36,
+        Frame::Reply(_) => 5,
     }
 }
 
-// 24, 25, 26, 27, 28.
-pub fn write_reply(f: ReplyFrame, buffer: &mut [u8]) -> Written
-    ensures { WriteCall (write_reply_questions f buffer.old)
-        (writing 5 (reply_into f buffer.old)) result buffer.old buffer.new }
+// A frame at the front of a buffer, and how many bytes it has: 24, 25, 26, 12 or 27, 28.
+pub fn write(frame: &Frame, buffer: &mut [u8]) -> Result<usize, Refusal>
+    ensures { WriteCall (write_questions frame.now buffer.old)
+        (writing (size_of frame.now) (frame_into frame.now buffer.old)) result buffer.old buffer.new }
 {
-    let answer = reply_answer(f);
-    let Ok(()) = answer else {
-        return buffers::not_written(answer);
-    };
-    if 5 <= buffer.len() {
-        put_reply(f, buffer);
-        Written {
-            answer: Ok(()),
-            count: 5,
-        }
-    } else {
-        buffers::not_written(Err(Refusal::ShortBuffer))
+    value_answer(frame)?;
+    let size = size_of(frame);
+    if buffer.len() < size {
+        return Err(Refusal::ShortBuffer);
     }
+    match frame {
+        Frame::Data(f) => put_data(f, buffer),
+        Frame::Reply(f) => put_reply(f, buffer),
+    }
+    Ok(size)
 }

@@ -2,14 +2,12 @@
 #![tactic(auto)]
 
 ghost use Rattle.std.specs.Prelude.{◌≡◌, ◌+◌, ◌*◌, ◌≤◌, length};
-ghost use Rattle.limits.specs.Answer.{number_of};
-ghost use Rattle.limits.specs.Questions.{first_no};
+ghost use Rattle.limits.specs.Questions.{Answered};
 ghost use Rattle.buffers.specs.Buffers.{wrote, writing, WriteCall};
-ghost use Rattle.page.specs.Page.{rows_on, lines_from, page_bytes, page_into, record_fits, page_questions};
+ghost use Rattle.page.specs.Page.{rows_in, rows_on, lines_from, page_bytes, page_into, record_fits, page_questions};
 
 mod line;
 
-use buffers::Written;
 use limits::answer::Refusal;
 
 // How many rows page p has. 60 times p is formed only where it is below `rows`.
@@ -31,29 +29,25 @@ fn record_fits(record: &[u16]) -> bool
     record.len() % 16 == 0 && record.len() / 16 <= 100000
 }
 
-// 30, 31, 12 and 32 of a page for a buffer of `room` bytes.
-fn page_answer(record: &[u16], p: usize, room: usize) -> Result<(), Refusal>
-    ensures { number_of result ≡ first_no (page_questions «record».now p room) }
+// How many rows page p has, if a buffer of `room` bytes holds them: 30, 31, 12, 32.
+fn page_answer(record: &[u16], p: usize, room: usize) -> Result<usize, Refusal>
+    ensures { Answered (page_questions «record».now p room) result (rows_on (rows_in «record».now) p) }
 {
-    if record_fits(record) {
-        let n = rows_on(record.len() / 16, p);
-        if 1 <= n {
-            let from = 16 * (60 * p);
-            if rows::legal_cells(record, from, from + 16 * n) {
-                if 23 * n <= room {
-                    Ok(())
-                } else {
-                    Err(Refusal::ShortPageBuffer)
-                }
-            } else {
-                Err(Refusal::IllegalCell)
-            }
-        } else {
-            Err(Refusal::NoSuchPage)
-        }
-    } else {
-        Err(Refusal::BadRecordLength)
+    if !record_fits(record) {
+        return Err(Refusal::BadRecordLength);
     }
+    let n = rows_on(record.len() / 16, p);
+    if n == 0 {
+        return Err(Refusal::NoSuchPage);
+    }
+    let from = 16 * (60 * p);
+    if !rows::legal_cells(record, from, from + 16 * n) {
+        return Err(Refusal::IllegalCell);
+    }
+    if room < 23 * n {
+        return Err(Refusal::ShortPageBuffer);
+    }
+    Ok(n)
 }
 
 // The lines of n rows from row `first` on.
@@ -67,19 +61,12 @@ fn lines(out: &mut [u8], record: &[u16], first: usize, n: usize)
     }
 }
 
-// Page p of a record, from row 60 p on, at the front of the buffer: 30, 31, 12, 32.
-pub fn page(record: &[u16], p: usize, out: &mut [u8]) -> Written
+// Page p of a record, from row 60 p on, at the front of the buffer, and how many bytes it has: 30, 31, 12, 32.
+pub fn page(record: &[u16], p: usize, out: &mut [u8]) -> Result<usize, Refusal>
     ensures { WriteCall (page_questions «record».now p (length out.old))
         (writing (page_bytes «record».now p) (page_into «record».now p out.old)) result out.old out.new }
 {
-    let answer = page_answer(record, p, out.len());
-    let Ok(()) = answer else {
-        return buffers::not_written(answer);
-    };
-    let n = rows_on(record.len() / 16, p);
+    let n = page_answer(record, p, out.len())?;
     lines(out, record, 60 * p, n);
-    Written {
-        answer: Ok(()),
-        count: 23 * n,
-    }
+    Ok(23 * n)
 }

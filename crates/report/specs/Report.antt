@@ -1,12 +1,12 @@
 -- The trial's whole output, as text of its input: a refusal, or a line for each event and one for the counts.
-use Rattle.std.specs.Prelude.{ℕ, ◌+◌, ◌*◌, ◌≤◌, List, [], ◌∷◌, ◌++◌, eqb, leb, length, drop, replicate}
+use Rattle.std.specs.Prelude.{ℕ, ◌+◌, ◌*◌, ◌≤◌, List, [], ◌∷◌, ◌++◌, eqb, leb, length, drop, replicate, Result}
+use Rattle.limits.specs.declared.answer.Refusal.{Refusal}
 use Rattle.limits.specs.Questions.{pick, Question, ask, first_no}
 use Rattle.unbounded.specs.Ends.{Ends}
 use Rattle.events.specs.declared.Counts.{Counts}
 use Rattle.lines.specs.Input.{readable, limits_of, supply_of, event_bytes}
 use Rattle.lines.specs.Text.{event_lines, counts_line, refused_line}
 use Rattle.ride.specs.Ride.{ride_questions, ends_of, answers_of}
-use Rattle.buffers.specs.declared.Written.{Written}
 use Rattle.buffers.specs.Buffers.{writing, WriteCall}
 
 -- An output of this length has room for the text of every input: 12 bytes for two of an event, and 40 for the counts.
@@ -41,7 +41,7 @@ abbrev pub output_questions : List ℕ → List Question
 output_questions output = ask 28 (leb output_length (length output)) ∷ []
 
 -- The text stands at the front, and behind it the output is as it was.
-abbrev pub Reports : List ℕ → List ℕ → List ℕ → Written → Type 0
+abbrev pub Reports : List ℕ → List ℕ → List ℕ → Result ℕ Refusal → Type 0
 Reports input before after r =
     WriteCall (output_questions before) (writing (length (text_of input)) (text_of input ++ drop (length (text_of input)) before)) r before after
 

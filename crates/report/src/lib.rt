@@ -8,7 +8,6 @@ ghost use Rattle.buffers.specs.Buffers.{Wrote};
 ghost use Rattle.lines.specs.Text.{event_lines, counts_line, refused_line};
 ghost use Rattle.report.specs.Report.{output_length, text_of, Room, Reports};
 
-use buffers::Written;
 use events::Counts;
 use limits::answer::Refusal;
 
@@ -62,24 +61,18 @@ fn text(input: &[u8], output: &mut [u8]) -> usize
     requires { output_length ≤ length output.old }
     ensures { Wrote 0 (text_of input.now) output.old output.new result }
 {
-    if lines::input::readable(input) {
-        ridden(input, output)
-    } else {
-        refused(output, Err(Refusal::BadInputLength))
+    if !lines::input::readable(input) {
+        return refused(output, Err(Refusal::BadInputLength));
     }
+    ridden(input, output)
 }
 
-// What the trial prints for this input, at the front of the output: 28.
-pub fn report(input: &[u8], output: &mut [u8]) -> Written
+// What the trial prints for this input, at the front of the output, and how many bytes it has: 28.
+pub fn report(input: &[u8], output: &mut [u8]) -> Result<usize, Refusal>
     ensures { Reports input.now output.old output.new result }
 {
-    if 245760 <= output.len() {
-        let count = text(input, output);
-        Written {
-            answer: Ok(()),
-            count,
-        }
-    } else {
-        buffers::not_written(Err(Refusal::ShortBuffer))
+    if output.len() < 245760 {
+        return Err(Refusal::ShortBuffer);
     }
+    Ok(text(input, output))
 }

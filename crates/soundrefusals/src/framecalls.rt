@@ -1,12 +1,11 @@
 // The reader and the writers of frames.
-use frames::{DataFrame, ReplyFrame};
+use frames::{DataFrame, Frame, ReplyFrame};
+use limits::messages::{Data, Reply};
 use std::io;
 use tries::line;
 
 fn read(rt: &impl Print, what: &[u8], bytes: &[u8]) -> io::Result<()> {
-    let r = frames::read(bytes);
-    let answer = r.answer;
-    line(rt, what, answer)
+    line(rt, what, frames::read(bytes))
 }
 
 fn write_data(
@@ -19,15 +18,12 @@ fn write_data(
     buffer: &mut [u8],
 ) -> io::Result<()> {
     let row = [cell; 16];
-    let f = DataFrame {
+    let frame = Frame::Data(DataFrame {
         life,
         window,
-        number,
-        row,
-    };
-    let r = frames::write_data(f, buffer);
-    let answer = r.answer;
-    line(rt, what, answer)
+        data: Data { number, row },
+    });
+    line(rt, what, frames::write(&frame, buffer))
 }
 
 fn write_reply(
@@ -38,15 +34,12 @@ fn write_reply(
     last: usize,
     buffer: &mut [u8],
 ) -> io::Result<()> {
-    let f = ReplyFrame {
+    let frame = Frame::Reply(ReplyFrame {
         life: 1,
         window,
-        first,
-        last,
-    };
-    let r = frames::write_reply(f, buffer);
-    let answer = r.answer;
-    line(rt, what, answer)
+        reply: Reply { first, last },
+    });
+    line(rt, what, frames::write(&frame, buffer))
 }
 
 fn read_tries(rt: &impl Print) -> io::Result<()> {

@@ -21,7 +21,6 @@ fn main(rt: HostRuntime) -> io::Result<()> {
     let mut input = Vec::new(rt.alloc());
     rt.stdin().take(LONGEST + 1).read_to_end(&mut input)?;
     let mut output = blank();
-    let r = report::report(input.as_slice(), &mut output);
-    let count = r.count;
+    let count = report::report(input.as_slice(), &mut output).unwrap();
     rt.write_all(&output[..count])
 }

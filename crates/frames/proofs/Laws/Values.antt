@@ -15,7 +15,9 @@ use Rattle.limits.proofs.Laws.Lists.{all_append}
 use Rattle.limits.proofs.Laws.Good.{between-low, between-high}
 use Rattle.frames.specs.declared.DataFrame.{DataFrame}
 use Rattle.frames.specs.declared.ReplyFrame.{ReplyFrame}
-use Rattle.frames.specs.Rules.{frame_questions, data_questions, reply_questions}
+use Rattle.frames.specs.declared.Frame.{Frame}
+use Rattle.frames.specs.declared.Frame.TheVariants.{Data, Reply}
+use Rattle.frames.specs.Rules.{frame_questions, data_questions, reply_questions, value_questions}
 use Rattle.limits.proofs.Laws.Questions.{numbered, passed, all-passed, more_stays, more-passes, more-fails}
 
 -- two numbers below n
@@ -59,6 +61,10 @@ pub reply-numbered : (f : ReplyFrame) → numbered (reply_questions f) ≡ true
 unfolding all
 reply-numbered f = refl
 
+pub value-numbered : (f : Frame) → numbered (value_questions f) ≡ true
+value-numbered (Data f) = data-numbered f
+value-numbered (Reply f) = reply-numbered f
+
 -- 24, 25 and 26 passed by a frame with the numbers a and b
 pub record FrameFits (w a b life : ℕ) : Type 0 where
   pub window-low : 1 ≤ w
@@ -101,54 +107,54 @@ parts qs rest e =
     joined : (passed qs && passed rest) ≡ true
     joined = sym (all_append (λ (q : Question). q.passes) qs rest) ∙ e
 
-pub data-fits : (f : DataFrame) → first_no (data_questions f) ≡ 0 → FrameFits f.window f.number f.number f.life
+pub data-fits : (f : DataFrame) → first_no (data_questions f) ≡ 0 → FrameFits f.window f.data.number f.data.number f.life
 data-fits f e =
-    passed-fits f.window f.number f.number f.life
-    (ap (λ b. passed (ask 24 (window_fits f.window) ∷ ask 25 b ∷ ask 26 (between 1 250 f.life) ∷ [])) (twice (λ k. ltb k (2 * f.window)) f.number)
-    ∙ (parts (frame_questions f.window (f.number ∷ []) f.life) (ask 12 (legal_row f.row) ∷ []) (all-passed (data_questions f) (data-numbered f) e)).0)
+    passed-fits f.window f.data.number f.data.number f.life
+    (ap (λ b. passed (ask 24 (window_fits f.window) ∷ ask 25 b ∷ ask 26 (between 1 250 f.life) ∷ [])) (twice (λ k. ltb k (2 * f.window)) f.data.number)
+    ∙ (parts (frame_questions f.window (f.data.number ∷ []) f.life) (ask 12 (legal_row f.data.row) ∷ []) (all-passed (data_questions f) (data-numbered f) e)).0)
 
-pub data-legal : (f : DataFrame) → first_no (data_questions f) ≡ 0 → legal_row f.row ≡ true
+pub data-legal : (f : DataFrame) → first_no (data_questions f) ≡ 0 → legal_row f.data.row ≡ true
 unfolding all
 data-legal f e =
-    and_left (legal_row f.row) true
-    (parts (frame_questions f.window (f.number ∷ []) f.life) (ask 12 (legal_row f.row) ∷ []) (all-passed (data_questions f) (data-numbered f) e)).1
+    and_left (legal_row f.data.row) true
+    (parts (frame_questions f.window (f.data.number ∷ []) f.life) (ask 12 (legal_row f.data.row) ∷ []) (all-passed (data_questions f) (data-numbered f) e)).1
 
-pub reply-fits : (f : ReplyFrame) → first_no (reply_questions f) ≡ 0 → FrameFits f.window f.first f.last f.life
+pub reply-fits : (f : ReplyFrame) → first_no (reply_questions f) ≡ 0 → FrameFits f.window f.reply.first f.reply.last f.life
 reply-fits f e =
-    passed-fits f.window f.first f.last f.life
-    (parts (frame_questions f.window (f.first ∷ f.last ∷ []) f.life)
-    (ask 27 (leb (span f.window (record { first = f.first; last = f.last })) f.window) ∷ []) (all-passed (reply_questions f) (reply-numbered f) e)).0
+    passed-fits f.window f.reply.first f.reply.last f.life
+    (parts (frame_questions f.window (f.reply.first ∷ f.reply.last ∷ []) f.life)
+    (ask 27 (leb (span f.window f.reply) f.window) ∷ []) (all-passed (reply_questions f) (reply-numbered f) e)).0
 
 -- the answer to 24, 25 and 26, and the last question of each kind behind it
-module _ (f : DataFrame) (found : ℕ) (first : found ≡ first_no (frame_questions f.window (f.number ∷ f.number ∷ []) f.life)) where
-  asked : found ≡ first_no (frame_questions f.window (f.number ∷ []) f.life)
-  asked = first ∙ alone f.window f.number f.life
+module _ (f : DataFrame) (found : ℕ) (first : found ≡ first_no (frame_questions f.window (f.data.number ∷ f.data.number ∷ []) f.life)) where
+  asked : found ≡ first_no (frame_questions f.window (f.data.number ∷ []) f.life)
+  asked = first ∙ alone f.window f.data.number f.life
 
   pub data-stays : eqb found 0 ≡ false → found ≡ first_no (data_questions f)
-  data-stays e = more_stays (frame_questions f.window (f.number ∷ []) f.life) found asked (ask 12 (legal_row f.row) ∷ []) e
+  data-stays e = more_stays (frame_questions f.window (f.data.number ∷ []) f.life) found asked (ask 12 (legal_row f.data.row) ∷ []) e
 
-  pub data-passes : found ≡ 0 → legal_row f.row ≡ true → 0 ≡ first_no (data_questions f)
+  pub data-passes : found ≡ 0 → legal_row f.data.row ≡ true → 0 ≡ first_no (data_questions f)
   data-passes e h =
-      more-passes (frame_questions f.window (f.number ∷ []) f.life) found asked 12 (legal_row f.row) (frame-numbered f.window (f.number ∷ []) f.life) e h
+      more-passes (frame_questions f.window (f.data.number ∷ []) f.life) found asked 12 (legal_row f.data.row) (frame-numbered f.window (f.data.number ∷ []) f.life) e h
 
-  pub data-fails : found ≡ 0 → legal_row f.row ≡ false → 12 ≡ first_no (data_questions f)
+  pub data-fails : found ≡ 0 → legal_row f.data.row ≡ false → 12 ≡ first_no (data_questions f)
   data-fails e h =
-      more-fails (frame_questions f.window (f.number ∷ []) f.life) found asked 12 (legal_row f.row) (frame-numbered f.window (f.number ∷ []) f.life) e h
+      more-fails (frame_questions f.window (f.data.number ∷ []) f.life) found asked 12 (legal_row f.data.row) (frame-numbered f.window (f.data.number ∷ []) f.life) e h
 
-module _ (f : ReplyFrame) (found : ℕ) (first : found ≡ first_no (frame_questions f.window (f.first ∷ f.last ∷ []) f.life)) where
+module _ (f : ReplyFrame) (found : ℕ) (first : found ≡ first_no (frame_questions f.window (f.reply.first ∷ f.reply.last ∷ []) f.life)) where
   abbrev span_of : ℕ
-  span_of = span f.window (record { first = f.first; last = f.last })
+  span_of = span f.window f.reply
 
   pub reply-stays : eqb found 0 ≡ false → found ≡ first_no (reply_questions f)
   reply-stays e =
-      more_stays (frame_questions f.window (f.first ∷ f.last ∷ []) f.life) found first (ask 27 (leb span_of f.window) ∷ []) e
+      more_stays (frame_questions f.window (f.reply.first ∷ f.reply.last ∷ []) f.life) found first (ask 27 (leb span_of f.window) ∷ []) e
 
   pub reply-passes : found ≡ 0 → span_of ≤ f.window → 0 ≡ first_no (reply_questions f)
   reply-passes e h =
-      more-passes (frame_questions f.window (f.first ∷ f.last ∷ []) f.life) found first 27 (leb span_of f.window)
-      (frame-numbered f.window (f.first ∷ f.last ∷ []) f.life) e (le-leb span_of f.window h)
+      more-passes (frame_questions f.window (f.reply.first ∷ f.reply.last ∷ []) f.life) found first 27 (leb span_of f.window)
+      (frame-numbered f.window (f.reply.first ∷ f.reply.last ∷ []) f.life) e (le-leb span_of f.window h)
 
   pub reply-fails : found ≡ 0 → f.window < span_of → 27 ≡ first_no (reply_questions f)
   reply-fails e h =
-      more-fails (frame_questions f.window (f.first ∷ f.last ∷ []) f.life) found first 27 (leb span_of f.window)
-      (frame-numbered f.window (f.first ∷ f.last ∷ []) f.life) e (lt-leb span_of f.window h)
+      more-fails (frame_questions f.window (f.reply.first ∷ f.reply.last ∷ []) f.life) found first 27 (leb span_of f.window)
+      (frame-numbered f.window (f.reply.first ∷ f.reply.last ∷ []) f.life) e (lt-leb span_of f.window h)

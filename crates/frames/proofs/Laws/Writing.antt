@@ -1,20 +1,18 @@
 -- Laws on bytes stored one by one at the front of a buffer, and on what a writer answers.
 use Prim.Native.Nat.{ℕ, ◌≤◌, ◌<◌}
-use mathlib.Core.Path.{◌≡◌, refl, ap}
-use mathlib.Core.Bool.{true, false}
+use mathlib.Core.Path.{◌≡◌, refl}
+use mathlib.Core.Bool.{false}
 use mathlib.Core.List.{List, [], ◌∷◌, ◌++◌}
 use native.Mathlib.Omega.{arith}
 use lib.Dec.{eqb, leb}
 use lib.ListN.{length, set, take, drop}
 use borrow.Author.Tests.{le-leb, lt-leb}
-use Rattle.limits.specs.Questions.{Answer}
-use Rattle.limits.specs.declared.answer.Refusal.TheVariants.{ShortBuffer}
-use Rattle.std.specs.Prelude.{Ok, Err}
-use Rattle.limits.specs.Answer.{number_of}
-use Rattle.limits.specs.Questions.{Question, ask, first_no, Answers}
-use Rattle.limits.proofs.Laws.Promise.{answers-done, answers-refused}
-use Rattle.buffers.specs.Buffers.{writing}
-use Rattle.limits.proofs.Laws.Questions.{numbered, more_stays, more-passes, more-fails}
+use Rattle.limits.specs.Questions.{ask, first_no}
+use Rattle.limits.proofs.Laws.Questions.{more_stays, more-passes, more-fails}
+use Rattle.frames.specs.declared.Frame.{Frame}
+use Rattle.frames.specs.Layout.{size_of}
+use Rattle.frames.specs.Rules.{value_questions, write_questions}
+use Rattle.frames.proofs.Laws.Values.{value-numbered}
 
 -- four bytes in front of the cells
 pub data-put : (buffer cells : List ℕ) (a b c d : ℕ) → 4 ≤ length buffer
@@ -35,16 +33,13 @@ reply-put (x ∷ y ∷ z ∷ []) a b c d e h = absurd (omega arith)
 reply-put (x ∷ y ∷ z ∷ u ∷ []) a b c d e h = absurd (omega arith)
 reply-put (x ∷ y ∷ z ∷ u ∷ v ∷ rest) a b c d e h = refl
 
--- what a writer answers, one law for both kinds of frames: `qs` are the questions of the values
-module _ (qs : List Question) (n : numbered qs ≡ true) (size : ℕ) (entry done : List ℕ) where
-  pub write-refused : (a : Answer) → number_of a ≡ first_no qs → eqb (number_of a) 0 ≡ false
-      → Answers (qs ++ (ask 28 (leb size (length entry)) ∷ [])) a (writing 0 entry) (writing size done) (writing 0 entry)
-  write-refused a e no_zero = answers-refused _ a _ _ _ (more_stays qs (number_of a) e _ no_zero) no_zero refl
+-- The answer of the values, and 28 behind it.
+module _ (f : Frame) (buffer : List ℕ) where
+  pub write-stays : (n : ℕ) → n ≡ first_no (value_questions f) → eqb n 0 ≡ false → n ≡ first_no (write_questions f buffer)
+  write-stays n e no_zero = more_stays (value_questions f) n e (ask 28 (leb (size_of f) (length buffer)) ∷ []) no_zero
 
-  pub write-short : 0 ≡ first_no qs → length entry < size
-      → Answers (qs ++ (ask 28 (leb size (length entry)) ∷ [])) (Err ShortBuffer) (writing 0 entry) (writing size done) (writing 0 entry)
-  write-short e h = answers-refused _ (Err ShortBuffer) _ _ _ (more-fails qs 0 e 28 _ n refl (lt-leb size (length entry) h)) refl refl
+  pub write-fails : 0 ≡ first_no (value_questions f) → length buffer < size_of f → 28 ≡ first_no (write_questions f buffer)
+  write-fails e h = more-fails (value_questions f) 0 e 28 (leb (size_of f) (length buffer)) (value-numbered f) refl (lt-leb _ _ h)
 
-  pub write_done : (exit : List ℕ) → 0 ≡ first_no qs → size ≤ length entry → exit ≡ done
-      → Answers (qs ++ (ask 28 (leb size (length entry)) ∷ [])) (Ok tt) (writing size exit) (writing size done) (writing 0 entry)
-  write_done exit e h same = answers-done _ (Ok tt) _ _ _ (more-passes qs 0 e 28 _ n refl (le-leb size (length entry) h)) refl (ap (writing size) same)
+  pub write-passes : 0 ≡ first_no (value_questions f) → size_of f ≤ length buffer → 0 ≡ first_no (write_questions f buffer)
+  write-passes e h = more-passes (value_questions f) 0 e 28 (leb (size_of f) (length buffer)) (value-numbered f) refl (le-leb _ _ h)

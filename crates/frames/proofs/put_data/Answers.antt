@@ -6,19 +6,19 @@ use Rattle.frames.proofs.Laws.Values.{data-fits}
 use Rattle.frames.proofs.put_data.Goals as goal
 
 pub overflow_cast-buffer : goal.overflow_cast-buffer
-overflow_cast-buffer c = let f = data-fits c.args.f c.requires.0 in omega arith
+overflow_cast-buffer c = let f = data-fits c.args.f.now c.requires.0 in omega arith
 
 pub bounds-buffer-1 : goal.bounds-buffer-1
 bounds-buffer-1 c = simp length-set (omega arith)
 
 pub overflow_cast-buffer-2 : goal.overflow_cast-buffer-2
-overflow_cast-buffer-2 c = let f = data-fits c.args.f c.requires.0 in omega arith
+overflow_cast-buffer-2 c = let f = data-fits c.args.f.now c.requires.0 in omega arith
 
 pub bounds-buffer-2 : goal.bounds-buffer-2
 bounds-buffer-2 c = simp length-set (omega arith)
 
 pub overflow_cast-buffer-3 : goal.overflow_cast-buffer-3
-overflow_cast-buffer-3 c = let f = data-fits c.args.f c.requires.0 in omega arith
+overflow_cast-buffer-3 c = let f = data-fits c.args.f.now c.requires.0 in omega arith
 
 pub bounds-buffer-3 : goal.bounds-buffer-3
 bounds-buffer-3 c = simp length-set (omega arith)

@@ -1,27 +1,38 @@
-use native.Mathlib.Omega.{arith}
-use mathlib.Core.Path.{refl}
-use Rattle.frames.proofs.Laws.Reading.{no_byte, no_kind, read-refused}
-use Rattle.limits.specs.declared.answer.Refusal.TheVariants.{UnknownFrame}
-use Rattle.std.specs.Prelude.{Ok, Err}
+use mathlib.Core.Path.{sym, ◌∙◌, ap}
+use Rattle.std.proofs.lemmas.Result.{err_from_is_err_and}
+use Rattle.limits.specs.Questions.{first_no}
+use Rattle.limits.proofs.Laws.Promise.{refusal-not-0}
+use Rattle.limits.proofs.Laws.Questions.{more_stays, behind-passed}
+use Rattle.frames.specs.Layout.{reading}
+use Rattle.frames.specs.Rules.{layout_questions, value_questions}
+use Rattle.frames.proofs.Laws.Reading.{layout-numbered}
 use Rattle.frames.proofs.read.Goals as goal
 
-pub bounds-bytes-0 : goal.bounds-bytes-0
-bounds-bytes-0 c = omega arith
+pub returns-in_err-frame : goal.returns-in_err-frame
+returns-in_err-frame c =
+    let b = c.args.bytes.now in
+    let p = err_from_is_err_and c.from_residual.result c.from_residual.ensures.1 in
+    rw (p.1, p.2)
+    (record { number = more_stays (layout_questions b) _ c.in_err-frame.ensures.number (value_questions (reading b)) (refusal-not-0 _); value = tt })
 
-pub read_data-requires : goal.read_data-requires
-read_data-requires c = c.if-kind-eq1.true
+pub returns-in_err-value_answer : goal.returns-in_err-value_answer
+returns-in_err-value_answer c =
+    let p = err_from_is_err_and c.from_residual-in_err-value_answer.result c.from_residual-in_err-value_answer.ensures.1 in
+    rw (p.1, p.2)
+    (record {
+      number =
+          c.in_err-value_answer.ensures
+          ∙ ap (λ f. first_no (value_questions f)) c.in_ok-frame.ensures.value
+          ∙ sym (behind-passed (layout_questions c.args.bytes.now) _ (layout-numbered c.args.bytes.now) (sym c.in_ok-frame.ensures.number));
+      value = tt;
+    })
 
-pub read_reply-requires : goal.read_reply-requires
-read_reply-requires c = c.if-kind-eq2.true
-
-pub returns-then-kind-eq1 : goal.returns-then-kind-eq1
-returns-then-kind-eq1 c = c.read_data.ensures
-
-pub returns-then-kind-eq2 : goal.returns-then-kind-eq2
-returns-then-kind-eq2 c = c.read_reply.ensures
-
-pub returns-else-kind-eq2 : goal.returns-else-kind-eq2
-returns-else-kind-eq2 c = read-refused _ _ (Err UnknownFrame) _ c.refused.ensures (no_kind c.args.bytes.now c.if-kind-eq1.false c.if-kind-eq2.false) refl
-
-pub returns-else-bytes-ge1 : goal.returns-else-bytes-ge1
-returns-else-bytes-ge1 c = read-refused _ _ (Err UnknownFrame) _ c.refused-else-bytes-ge1.ensures (no_byte c.args.bytes.now (omega arith)) refl
+pub returns : goal.returns
+returns c =
+    record {
+      number =
+          c.in_ok-value_answer.ensures
+          ∙ ap (λ f. first_no (value_questions f)) c.in_ok-frame.ensures.value
+          ∙ sym (behind-passed (layout_questions c.args.bytes.now) _ (layout-numbered c.args.bytes.now) (sym c.in_ok-frame.ensures.number));
+      value = c.in_ok-frame.ensures.value;
+    }

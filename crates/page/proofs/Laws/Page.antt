@@ -14,7 +14,7 @@ use Rattle.limits.proofs.Laws.Choice.{pick_yes, pick_no, split, and_right}
 use Rattle.limits.proofs.Laws.Lists.{tab-more, joined-append}
 use Rattle.limits.proofs.Laws.Questions.{each}
 use Rattle.rows.proofs.Laws.Cells.{length_part, legal-rows}
-use Rattle.buffers.specs.Buffers.{wrote, writing}
+use Rattle.buffers.specs.Buffers.{wrote}
 use Rattle.buffers.proofs.Laws.Buffers.{wrote_on, wrote-front}
 use Rattle.page.specs.Page.{printed, line_text, rows_in, rows_on, lines_from, page_text, page_bytes, page_into, record_fits, legal_page, page_questions}
 
@@ -132,12 +132,11 @@ passed cells p room e =
 
 -- the page's lines at the front of the buffer
 pub page-done : (cells xs ys : List ℕ) (p n : ℕ) → Passed cells p (length xs) → n ≡ rows_on (rows_in cells) p → ys ≡ wrote 0 (lines_from cells (60 * p) n) xs
-    → writing (23 * n) ys ≡ writing (page_bytes cells p) (page_into cells p xs)
+    → ys ≡ page_into cells p xs
 unfolding page_text
 page-done cells xs ys p n h on e =
     let f = on_fits (rows_in cells) p n on (let s = h.some in omega arith) in
-    ap₂ writing (ap (23 *◌) on)
-    (e
+    e
     ∙ wrote-front (lines_from cells (60 * p) n) xs
     ∙ ap (λ k. lines_from cells (60 * p) n ++ drop k xs) (length-lines cells (60 * p) n (omega arith))
-    ∙ ap (λ k. lines_from cells (60 * p) k ++ drop (23 * k) xs) on)
+    ∙ ap (λ k. lines_from cells (60 * p) k ++ drop (23 * k) xs) on

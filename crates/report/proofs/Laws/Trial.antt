@@ -9,24 +9,26 @@ use lib.ListN.{length, take, drop, length-append, length-drop, length-replicate}
 use lib.Seq.{take_all, length-take-le}
 use borrow.Author.Tests.{eq-eqb, leb-true, le-leb, lt-leb}
 use Rattle.limits.specs.declared.Limits.{Limits}
+use Rattle.limits.specs.declared.answer.Refusal.{Refusal}
 use Rattle.limits.specs.declared.answer.Refusal.TheVariants.{ShortBuffer}
-use Rattle.std.specs.Prelude.{Ok, Err}
-use Rattle.limits.specs.Answer.{number_of}
+use Rattle.std.specs.Prelude.{Result, Ok, Err, IsOk}
+use Rattle.std.proofs.Common.{rules}
+use Rattle.limits.specs.Answer.{refusal_number, number_of}
 use Rattle.limits.specs.Lists.{tab}
 use Rattle.limits.specs.Questions.{first_no}
-use Rattle.limits.proofs.Laws.Choice.{pick_yes, pick_no, test, and_left, and_right}
+use Rattle.limits.proofs.Laws.Choice.{pick_yes, pick_no, and_left, and_right, clash}
 use Rattle.limits.proofs.Laws.Lists.{length-tab}
-use Rattle.limits.proofs.Laws.Promise.{none-no, done-of, answers-done, answers-refused}
+use Rattle.limits.proofs.Laws.Promise.{refusal-not-0, none-no, done-of}
 use Rattle.unbounded.specs.Ends.{Ends}
 use Rattle.lines.specs.Input.{row_count, event_start, most_input, readable, limits_of, supply_of, cell_at, event_bytes}
-use Rattle.buffers.specs.Buffers.{Wrote, Writing, writing}
+use Rattle.buffers.specs.Buffers.{Wrote}
 use Rattle.buffers.proofs.Laws.Buffers.{wrote-front}
+use Rattle.buffers.proofs.Laws.Writing.{write-done, write-refused}
 use Rattle.lines.specs.Text.{event_lines, counts_line, refused_line}
 use Rattle.lines.proofs.Laws.Input.{supply-front}
 use Rattle.ride.specs.declared.Outcome.{Outcome}
 use Rattle.ride.specs.Ride.{ride_questions, ends_of, answers_of, Riding, riding, Rode}
 use Rattle.ride.proofs.Laws.Bounds.{Bounded, bounded, answer-count}
-use Rattle.buffers.specs.declared.Written.{Written}
 use Rattle.report.specs.Report.{output_length, no_answers, trial_questions, trial_ends, trial_answers, ride_text, text_of, Room, output_questions, Reports}
 use Rattle.report.proofs.Laws.Text.{lines-front}
 
@@ -151,23 +153,19 @@ module _ (input : List ℕ) (e : readable input ≡ true) (asked : Limits) (byte
         }
 
 -- question 28, passed and answered no
+output-passes : (before : List ℕ) → output_length ≤ length before → 0 ≡ first_no (output_questions before)
+output-passes before h = sym (pick_yes _ _ _ _ (le-leb output_length (length before) h) refl)
+
 pub reported : (input before after : List ℕ) (n : ℕ) → output_length ≤ length before → Wrote 0 (text_of input) before after n
-    → Reports input before after (record { answer = (Ok tt); count = n })
+    → Reports input before after (Ok n)
 reported input before after n h w =
-    let count : n ≡ length (text_of input) = (let b = w.behind in omega arith) in
-    answers-done (output_questions before) (Ok tt) _ _ _ (sym (pick_yes _ _ _ _ (le-leb output_length (length before) h) refl)) refl
-    (ap₂ writing count (w.buffer ∙ wrote-front (text_of input) before))
+    write-done _ _ _ _ _ (output-passes before h) (let b = w.behind in omega arith) (w.buffer ∙ wrote-front (text_of input) before)
 
-pub not-reported : (input before : List ℕ) → length before < output_length → Reports input before before (record { answer = (Err ShortBuffer); count = 0 })
+pub not-reported : (input before : List ℕ) → length before < output_length → Reports input before before (Err ShortBuffer)
 not-reported input before h =
-    answers-refused (output_questions before) (Err ShortBuffer) _ _ _ (sym (pick_no _ _ _ _ (lt-leb output_length (length before) h) refl)) refl refl
+    write-refused _ _ _ _ ShortBuffer (sym (pick_no _ _ _ _ (lt-leb output_length (length before) h) refl)) refl
 
--- what a caller may read of its output
-pub count_fits : (input before after : List ℕ) (r : Written) → Reports input before after r → r.count ≤ length after
-count_fits input before after r h =
-    test (eqb (first_no (output_questions before)) 0)
-    (λ z. let s = h.result ∙ pick_yes _ _ _ _ z refl in
-    let n : r.count ≡ length (text_of input) = ap (λ (x : Writing). x.count) s in
-    let l : length after ≡ length (text_of input ++ drop (length (text_of input)) before) = ap (λ (x : Writing). length x.buffer) s in
-    let a = length-append (text_of input) (drop (length (text_of input)) before) in omega arith)
-    (λ z. let n : r.count ≡ 0 = ap (λ (x : Writing). x.count) (h.result ∙ pick_no _ _ _ _ z refl) in omega arith)
+-- an output that is long enough is taken
+pub reports-ok : (input before after : List ℕ) (r : Result ℕ Refusal) → output_length ≤ length before → Reports input before after r → IsOk r
+reports-ok input before after (Ok n) h p = search rules
+reports-ok input before after (Err r) h p = absurd (clash _ (eq-eqb (refusal_number r) 0 (p.answered.number ∙ sym (output-passes before h))) (refusal-not-0 r))

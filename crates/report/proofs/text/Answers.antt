@@ -4,7 +4,7 @@ use Rattle.report.proofs.Laws.Trial.{unreadable}
 use Rattle.report.proofs.text.Goals as goal
 
 pub ridden-requires : goal.ridden-requires
-ridden-requires c = (sym c.readable.ensures ∙ c.if-readable.true, c.requires)
+ridden-requires c = (sym c.readable.ensures ∙ c.if-not-readable.false, c.requires)
 
-pub returns-else-readable : goal.returns-else-readable
-returns-else-readable c = same-wrote _ _ _ _ _ _ (unreadable _ (sym c.readable.ensures ∙ c.if-readable.false)) c.refused.ensures
+pub returns-then-not-readable : goal.returns-then-not-readable
+returns-then-not-readable c = same-wrote _ _ _ _ _ _ (unreadable _ (sym c.readable.ensures ∙ c.if-not-readable.true)) c.refused.ensures

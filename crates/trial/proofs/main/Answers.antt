@@ -1,10 +1,6 @@
-use mathlib.Core.Path.{sym}
-use lib.Seq.{length-take-le}
-use Rattle.report.proofs.Laws.Trial.{count_fits}
+use native.Mathlib.Omega.{arith}
+use Rattle.report.proofs.Laws.Trial.{reports-ok}
 use Rattle.trial.proofs.main.Goals as goal
 
-pub slice_bounds-output-end : goal.slice_bounds-output-end
-slice_bounds-output-end c = count_fits _ _ _ _ c.report-r.ensures
-
-pub slice_bounds-write_all-end : goal.slice_bounds-write_all-end
-slice_bounds-write_all-end c = sym (length-take-le _ _ (count_fits _ _ _ _ c.report-r.ensures))
+pub unwrap-count-requires : goal.unwrap-count-requires
+unwrap-count-requires c = reports-ok _ _ _ _ (omega arith) c.report.ensures
