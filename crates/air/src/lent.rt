@@ -64,7 +64,8 @@ fn reply_sound(l: Limits, words: &[u16], at: usize) -> bool
 {
     let first = wide(words[at + 1]);
     let last = wide(words[at + 2]);
-    limits::within(1, l.replylife, words[at]) && rows::messages::reply_sound(l, Reply { first, last })
+    limits::within(1, l.replylife, words[at])
+        && rows::messages::reply_sound(l, Reply { first, last })
 }
 
 // Question 4 of the message whose words stand from `at` on, but for its cells.
