@@ -68,6 +68,7 @@ fn written(head: &[u16; 5], cells: &[u16; 16], buffer: &mut [u8]) -> Result<usiz
 
 // 22 of a kind other than 1 and 2, then the writer's questions of the frame that head and cells make. `count` gets the bytes
 // written, or 0.
+// Stays (C interface): the number and the count go out apart.
 pub fn write(head: &[u16; 5], cells: &[u16; 16], buffer: &mut [u8], count: &mut usize) -> u8
     ensures { WriteFrame head.now cells.now buffer.old buffer.new count.new result }
 {

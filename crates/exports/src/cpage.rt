@@ -4,6 +4,7 @@ ghost use Rattle.buffers.specs.Buffers.{writing, WriteNumber};
 ghost use Rattle.page.specs.Page.{page_bytes, page_into, page_questions};
 
 // 30, 31, 12, 32. `count` gets the bytes written, or 0.
+// Stays (C interface): the number and the count go out apart.
 pub fn matlink_page(record: &[u16], page: u64, buffer: &mut [u8], count: &mut u64) -> u8
     ensures { WriteNumber (page_questions «record».now page (length buffer.old))
         (writing (page_bytes «record».now page) (page_into «record».now page buffer.old))
