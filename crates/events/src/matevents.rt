@@ -13,6 +13,7 @@ use crate::moves::{Numbers, Step};
 use air::{changes, lent};
 use limits::Limits;
 use limits::answer::Refusal;
+use limits::messages::{Data, Reply};
 use mat::soundmat;
 
 // The next row is sent: 10, 11, 12, 13.
@@ -46,7 +47,7 @@ pub fn send(
         let row = found.row;
         let number = n.next;
         let next = soundmat::keep(l, number, mattimers, matcells, row);
-        let count = changes::put_data(l, n.datas, datas, number, row);
+        let count = changes::put(l, n.datas, datas, Data { number, row });
         Step {
             answer,
             numbers: moves::with_next(moves::with_datas(n, count), next),
@@ -87,7 +88,7 @@ pub fn resend(
     if lent::room(n.datas) {
         let number = found.number;
         let row = soundmat::again(l, number, mattimers, matcells);
-        let count = changes::put_data(l, n.datas, datas, number, row);
+        let count = changes::put(l, n.datas, datas, Data { number, row });
         moves::stays(moves::with_datas(n, count), answer)
     } else {
         moves::stays(n, Err(Refusal::DataTableFull))
@@ -115,17 +116,16 @@ pub fn arrive_reply(
         datas replies.new)
         supply b b (arrive_reply p) result }
 {
-    let found = changes::find_reply(n.replies, replies, p);
-    let answer = found.answer;
-    let Ok(()) = answer else {
-        return moves::stays(n, answer);
+    let reply = match changes::find::<Reply>(n.replies, replies, p) {
+        Ok(reply) => reply,
+        Err(refusal) => return moves::stays(n, Err(refusal)),
     };
-    let a = soundmat::acknowledge(l, n.oldest, n.next, marks, found.first, found.last);
+    let a = soundmat::acknowledge(l, n.oldest, n.next, marks, reply.first, reply.last);
     let answer = a.answer;
     let Ok(()) = answer else {
         return moves::stays(n, answer);
     };
-    let count = changes::remove_reply(n.replies, replies, p);
+    let count = changes::remove::<Reply>(n.replies, replies, p);
     Step {
         answer,
         numbers: moves::with_oldest(moves::with_replies(n, count), a.oldest),

@@ -7,7 +7,7 @@ ghost use Rattle.events.specs.Lent.{numbers_of, link_of, arrays};
 ghost use Rattle.runs.specs.View.{Stepped, Ran};
 ghost use Rattle.link.specs.View.{fresh_link, Opened};
 
-use air::{datatable, replytable};
+use air::table::{DataTable, ReplyTable};
 use events::moves::Numbers;
 use events::{Link, Progress};
 use limits::Limits;
@@ -20,8 +20,8 @@ fn fresh(limits: Limits) -> Link
         limits,
         mat: mat::fresh(),
         pad: pad::fresh(),
-        datas: datatable::empty(),
-        replies: replytable::empty(),
+        datas: DataTable::empty(),
+        replies: ReplyTable::empty(),
     }
 }
 
@@ -45,8 +45,8 @@ fn numbers_of(k: Link) -> Numbers
         oldest: mat::oldest_of(m),
         next: mat::next_of(m),
         wanted: pad::wanted_of(p),
-        datas: datatable::count_of(d),
-        replies: replytable::count_of(r),
+        datas: d.count_of(),
+        replies: r.count_of(),
     }
 }
 
@@ -69,8 +69,8 @@ fn joined(
         limits: l,
         mat: mat::assembled(n.oldest, n.next, marks, mattimers, matcells),
         pad: pad::assembled(n.wanted, held, padtimers, padcells),
-        datas: datatable::assembled(n.datas, datas),
-        replies: replytable::assembled(n.replies, replies),
+        datas: DataTable::assembled(n.datas, datas),
+        replies: ReplyTable::assembled(n.replies, replies),
     }
 }
 
@@ -88,8 +88,8 @@ pub fn sound(k: Link) -> bool
     let held = pad::held_of(p);
     let padtimers = pad::timers_of(p);
     let padcells = pad::cells_of(p);
-    let datas = datatable::words_of(k.datas);
-    let replies = replytable::words_of(k.replies);
+    let datas = k.datas.words_of();
+    let replies = k.replies.words_of();
     runs::lent_sound(
         l, n, &marks, &mattimers, &matcells, &held, &padtimers, &padcells, &datas, &replies,
     )
@@ -110,8 +110,8 @@ pub fn step(k: Link, kind: u8, argument: u8, supply: &[u16], record: &mut [u16])
     let mut held = pad::held_of(p);
     let mut padtimers = pad::timers_of(p);
     let mut padcells = pad::cells_of(p);
-    let mut datas = datatable::words_of(k.datas);
-    let mut replies = replytable::words_of(k.replies);
+    let mut datas = k.datas.words_of();
+    let mut replies = k.replies.words_of();
     let s = runs::lent_step(
         l,
         n,
@@ -161,8 +161,8 @@ pub fn run(
     let mut held = pad::held_of(p);
     let mut padtimers = pad::timers_of(p);
     let mut padcells = pad::cells_of(p);
-    let mut datas = datatable::words_of(k.datas);
-    let mut replies = replytable::words_of(k.replies);
+    let mut datas = k.datas.words_of();
+    let mut replies = k.replies.words_of();
     let s = runs::lent_run(
         l,
         n,

@@ -14,19 +14,13 @@ use Rattle.limits.specs.Questions.{Question, ask, first_no, Changed}
 use Rattle.limits.proofs.Laws.Choice.{and_right}
 use Rattle.limits.proofs.Laws.Questions.{each}
 use Rattle.air.specs.Rules.{place_questions}
-use Rattle.air.specs.declared.table.Table.{Table}
 use Rattle.air.specs.Forms.{Form, messages_of, sound_table}
-use Rattle.air.specs.Tables.{sound_in}
 use Rattle.air.proofs.Laws.Forms.{length-messages, count-few}
 
 -- a call that is done
 pub changed-done : {S V : Type 0} (qs : List Question) (shown moved : V) (sound : S → Bool) (before after : S)
     → first_no qs ≡ 0 → shown ≡ moved → sound after ≡ true → Changed {X = Unit {0}} qs (Ok tt) tt shown moved sound before after
 changed-done qs shown moved sound before after e s h = record { answered = record { number = sym e; value = refl }; left = s; kept = tt; stays = λ _. h }
-
--- a sound table has at most 32 messages
-pub table-few : {B : Type 0} {n : ℕ} (form : Form B) (l : Limits) (t : Table B n) → sound_in form l t ≡ true → t.count ≤ 32
-table-few form l t e = count-few form t.count t.words l e
 
 -- a message that was asked for and is there
 pub record There {B : Type 0} (form : Form B) (l : Limits) (n : ℕ) (words : List ℕ) (p : ℕ) : Type 0 where
