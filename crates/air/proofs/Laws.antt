@@ -1,7 +1,4 @@
 pub mod Sound
-pub mod Typed
-pub mod Words
-pub mod Asked
-pub mod Calls
-pub mod Holds
+pub mod Forms
+pub mod Tables
 pub mod Fresh

@@ -1,4 +1,6 @@
 pub mod Rules
-pub mod Kinds
+pub mod Forms
+pub mod Laws
+pub mod Tables
 pub mod Data
 pub mod Replies

@@ -12,8 +12,7 @@ use Rattle.limits.specs.Ring.{distance, step}
 use Rattle.limits.specs.Tables.{remove, age}
 use Rattle.limits.specs.Events.{event}
 use Rattle.tables.specs.Words.{messages}
-use Rattle.air.specs.Data.{data_messages}
-use Rattle.air.specs.Replies.{reply_messages}
+use Rattle.air.specs.Forms.{messages_of}
 use Rattle.mat.specs.View.{mat_state}
 use Rattle.mat.specs.Rules as mat
 use Rattle.pad.specs.Window.{ready}
@@ -41,7 +40,7 @@ for-each {w} some most f {x} e =
     ∙ get_or-replicate 32 (w - 1) x x (omega arith)
 
 pub cases : (w : ℕ) → 1 ≤ w → w ≤ 32 → Every Holds (table w)
-unfolding pick all tab leading joined legal_cell distance step remove age event least_wait default_wait window_fits times_fit wait_fits accepted at after unbounded.answers unbounded.after_all built.answers built.after_all built.next built.continued stepped link_state messages data_messages reply_messages mat_state pad_state slot_at ready mat.sending mat.resending mat.marked mat.passing mat.ticked pad.arrival pad.replying pad.ticked
+unfolding pick all tab leading joined legal_cell distance step remove age event least_wait default_wait window_fits times_fit wait_fits accepted at after unbounded.answers unbounded.after_all built.answers built.after_all built.next built.continued stepped link_state messages messages_of mat_state pad_state slot_at ready mat.sending mat.resending mat.marked mat.passing mat.ticked pad.arrival pad.replying pad.ticked
 cases w some most =
     -- A
     (for-each some most (λ v. first_no (limits_questions (limits v 0))) refl, refl)

@@ -10,6 +10,7 @@ use crate::moves::{Numbers, Step};
 use air::changes;
 use limits::Limits;
 use limits::answer::Refusal;
+use limits::messages::{Data, Reply};
 use mat::soundmat;
 use pad::soundpad;
 
@@ -27,7 +28,7 @@ pub fn lose_data(n: Numbers, datas: &mut [u16; 576], p: usize) -> Step
         supply b b (lose_data p) result }
 {
     if p < n.datas {
-        let left = changes::remove_data(n.datas, datas, p);
+        let left = changes::remove::<Data>(n.datas, datas, p);
         moves::stays(moves::with_datas(n, left), Ok(()))
     } else {
         moves::stays(n, Err(Refusal::NoMessage))
@@ -48,7 +49,7 @@ pub fn lose_reply(n: Numbers, replies: &mut [u16; 96], p: usize) -> Step
         supply b b (lose_reply p) result }
 {
     if p < n.replies {
-        let left = changes::remove_reply(n.replies, replies, p);
+        let left = changes::remove::<Reply>(n.replies, replies, p);
         moves::stays(moves::with_replies(n, left), Ok(()))
     } else {
         moves::stays(n, Err(Refusal::NoMessage))
@@ -78,8 +79,8 @@ pub fn tick(
 {
     soundmat::tick(l, mattimers, d);
     soundpad::tick(l, padtimers, d);
-    let left = changes::age_data(n.datas, datas, d);
-    let replied = changes::age_replies(n.replies, replies, d);
+    let left = changes::age::<Data>(n.datas, datas, d);
+    let replied = changes::age::<Reply>(n.replies, replies, d);
     let after = moves::with_replies(moves::with_datas(n, left), replied);
     moves::stays(after, Ok(()))
 }

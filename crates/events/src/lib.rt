@@ -6,8 +6,7 @@ pub mod matevents;
 pub mod moves;
 pub mod padevents;
 
-use air::datatable::DataTable;
-use air::replytable::ReplyTable;
+use air::table::{DataTable, ReplyTable};
 use limits::Limits;
 use limits::answer::Refusal;
 use mat::Mat;

@@ -13,7 +13,7 @@ use crate::moves::{Numbers, Step};
 use air::{changes, lent};
 use limits::Limits;
 use limits::answer::Refusal;
-use limits::messages::Reply;
+use limits::messages::{Data, Reply};
 use mat::soundmat;
 use mat::soundmat::Passed;
 
@@ -46,7 +46,7 @@ pub fn send(
     if lent::room(n.datas) {
         let number = n.next;
         let next = soundmat::keep(l, number, mattimers, matcells, row);
-        let count = changes::put_data(l, n.datas, datas, number, row);
+        let count = changes::put(l, n.datas, datas, Data { number, row });
         Step {
             answer: Ok(()),
             numbers: moves::with_next(moves::with_datas(n, count), next),
@@ -85,7 +85,7 @@ pub fn resend(
     };
     if lent::room(n.datas) {
         let row = soundmat::again(l, number, mattimers, matcells);
-        let count = changes::put_data(l, n.datas, datas, number, row);
+        let count = changes::put(l, n.datas, datas, Data { number, row });
         moves::stays(moves::with_datas(n, count), Ok(()))
     } else {
         moves::stays(n, Err(Refusal::DataTableFull))
@@ -113,20 +113,15 @@ pub fn arrive_reply(
         datas replies.new)
         supply b b (arrive_reply p) result }
 {
-    let found = changes::find_reply(n.replies, replies, p);
-    let answer = found.answer;
-    let Ok(()) = answer else {
-        return moves::stays(n, answer);
-    };
-    let reply = Reply {
-        first: found.first,
-        last: found.last,
+    let reply = match changes::find::<Reply>(n.replies, replies, p) {
+        Ok(reply) => reply,
+        Err(refusal) => return moves::stays(n, Err(refusal)),
     };
     let Passed { oldest, passed } = match soundmat::acknowledge(l, n.oldest, n.next, marks, reply) {
         Ok(passed) => passed,
         Err(refusal) => return moves::stays(n, Err(refusal)),
     };
-    let count = changes::remove_reply(n.replies, replies, p);
+    let count = changes::remove::<Reply>(n.replies, replies, p);
     Step {
         answer: Ok(()),
         numbers: moves::with_oldest(moves::with_replies(n, count), oldest),

@@ -12,7 +12,7 @@ use crate::moves::{Numbers, Step};
 use air::{changes, lent};
 use limits::Limits;
 use limits::answer::Refusal;
-use limits::messages::Data;
+use limits::messages::{Data, Reply};
 use pad::soundpad;
 
 // Message p is an old row: it is replied to and leaves the data table: 18.
@@ -38,8 +38,16 @@ fn take_old(
         b p (record { first = number; last = number }) result }
 {
     if lent::room(n.replies) {
-        let replied = changes::put_reply(l, n.replies, replies, number, number);
-        let left = changes::remove_data(n.datas, datas, p);
+        let replied = changes::put(
+            l,
+            n.replies,
+            replies,
+            Reply {
+                first: number,
+                last: number,
+            },
+        );
+        let left = changes::remove::<Data>(n.datas, datas, p);
         let after = moves::with_replies(moves::with_datas(n, left), replied);
         moves::stays(after, Ok(()))
     } else {
@@ -71,20 +79,14 @@ pub fn arrive_data(
         datas.new replies.new)
         supply b b (arrive_data p) result }
 {
-    let found = changes::find_data(n.datas, datas, p);
-    let answer = found.answer;
-    let Ok(()) = answer else {
-        return moves::stays(n, answer);
-    };
-    let row = found.row;
-    let data = Data {
-        number: found.number,
-        row,
+    let data = match changes::find::<Data>(n.datas, datas, p) {
+        Ok(data) => data,
+        Err(refusal) => return moves::stays(n, Err(refusal)),
     };
     if soundpad::in_window(l, n.wanted, data.number) {
         soundpad::hold(l, data, held, padtimers, padcells);
-        let left = changes::remove_data(n.datas, datas, p);
-        moves::stays(moves::with_datas(n, left), answer)
+        let left = changes::remove::<Data>(n.datas, datas, p);
+        moves::stays(moves::with_datas(n, left), Ok(()))
     } else {
         take_old(l, n, datas, replies, p, data.number)
     }
@@ -119,7 +121,15 @@ pub fn reply(
     if 16 * count <= record.len() {
         if lent::room(n.replies) {
             let passed = soundpad::record_run(l, n.wanted, held, padcells, count, record);
-            let replied = changes::put_reply(l, n.replies, replies, n.wanted, passed.last);
+            let replied = changes::put(
+                l,
+                n.replies,
+                replies,
+                Reply {
+                    first: n.wanted,
+                    last: passed.last,
+                },
+            );
             Step {
                 answer: Ok(()),
                 numbers: moves::with_wanted(moves::with_replies(n, replied), passed.wanted),

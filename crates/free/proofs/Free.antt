@@ -10,7 +10,7 @@ free =
     record {
       mat = record { only_free = mat.only-free; not_shown = mat.not-shown; not_asked = mat.not-asked; marks_off = mat.marks-off };
       pad = record { only_free = pad.only-free; not_shown = pad.not-shown; not_asked = pad.not-asked; timers_low = pad.timers-low };
-      datas = record { only_free = tables.data-only-free; not_shown = tables.data-not-shown; not_asked = tables.data-not-asked };
-      replies = record { only_free = tables.reply-only-free; not_shown = tables.reply-not-shown; not_asked = tables.reply-not-asked };
+      datas = tables.data-free;
+      replies = tables.reply-free;
       link = record { only_free = link.only-free; not_shown = λ a b h s. link.not-shown a b s h; not_asked = link.not-asked };
     }

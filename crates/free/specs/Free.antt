@@ -13,13 +13,11 @@ use Rattle.mat.specs.declared.Mat.{Mat}
 use Rattle.mat.specs.View.{outstanding_of, mark_at, cells_at, mat_state, sound_mat}
 use Rattle.pad.specs.declared.Pad.{Pad}
 use Rattle.pad.specs.View.{pad_state, sound_pad}
-use Rattle.air.specs.declared.datatable.DataTable.{DataTable}
-use Rattle.air.specs.declared.replytable.ReplyTable.{ReplyTable}
-use Rattle.air.specs.declared.lent.Kind.{Kind}
-use Rattle.air.specs.declared.lent.Kind.TheVariants.{OfData, OfReplies}
-use Rattle.air.specs.Kinds.{width_of, Lent, lent}
-use Rattle.air.specs.Data.{data_messages, sound_data_table}
-use Rattle.air.specs.Replies.{reply_messages, sound_reply_table}
+use Rattle.air.specs.declared.table.Table.{Table}
+use Rattle.air.specs.Forms.{Form, data_form, reply_form}
+use Rattle.air.specs.Tables.{table_messages, sound_in}
+use Rattle.air.specs.Data.{DataTable}
+use Rattle.air.specs.Replies.{ReplyTable}
 use Rattle.events.specs.declared.Link.{Link}
 use Rattle.events.specs.View.{link_state, sound_link}
 
@@ -58,25 +56,26 @@ pub record FreeOfPad : Type 0 where
   pub timers_low : (l : Limits) (p : Pad) → sound_pad l p ≡ true → TimersLow l p
 
 -- Free in a table: what stands beyond its count.
-pub record SameTable (kind : Kind) (a b : Lent) : Type 0 where
+pub record SameTable {B : Type 0} {n : ℕ} (form : Form B) (a b : Table B n) : Type 0 where
   pub count : a.count ≡ b.count
-  pub words : (k : ℕ) → k < width_of kind * a.count → get_or a.words k 0 ≡ get_or b.words k 0
+  pub words : (k : ℕ) → k < form.width * a.count → get_or a.words k 0 ≡ get_or b.words k 0
+
+pub record FreeOfTable {B : Type 0} (form : Form B) (n : ℕ) : Type 0 where
+  pub only_free : (a b : Table B n) → table_messages form a ≡ table_messages form b → SameTable form a b
+  pub not_shown : (a b : Table B n) → SameTable form a b → table_messages form a ≡ table_messages form b
+  pub not_asked : (l : Limits) (a b : Table B n) → SameTable form a b → sound_in form l a ≡ sound_in form l b
 
 abbrev pub SameData : DataTable → DataTable → Type 0
-SameData a b = SameTable OfData (lent a.count a.words) (lent b.count b.words)
+SameData a b = SameTable data_form a b
 
-pub record FreeOfData : Type 0 where
-  pub only_free : (a b : DataTable) → data_messages a ≡ data_messages b → SameData a b
-  pub not_shown : (a b : DataTable) → SameData a b → data_messages a ≡ data_messages b
-  pub not_asked : (l : Limits) (a b : DataTable) → SameData a b → sound_data_table l a ≡ sound_data_table l b
+abbrev pub FreeOfData : Type 0
+FreeOfData = FreeOfTable data_form 576
 
 abbrev pub SameReplies : ReplyTable → ReplyTable → Type 0
-SameReplies a b = SameTable OfReplies (lent a.count a.words) (lent b.count b.words)
+SameReplies a b = SameTable reply_form a b
 
-pub record FreeOfReplies : Type 0 where
-  pub only_free : (a b : ReplyTable) → reply_messages a ≡ reply_messages b → SameReplies a b
-  pub not_shown : (a b : ReplyTable) → SameReplies a b → reply_messages a ≡ reply_messages b
-  pub not_asked : (l : Limits) (a b : ReplyTable) → SameReplies a b → sound_reply_table l a ≡ sound_reply_table l b
+abbrev pub FreeOfReplies : Type 0
+FreeOfReplies = FreeOfTable reply_form 96
 
 -- Free in a link: what is free in its parts.
 pub record SameLink (a b : Link) : Type 0 where

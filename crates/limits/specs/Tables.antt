@@ -3,14 +3,14 @@ use Rattle.std.specs.Prelude.{ℕ, zero, suc, ◌-◌, ◌*◌, ◌+◌, Bool, �
 use Rattle.limits.specs.declared.Limits.{Limits}
 use Rattle.limits.specs.declared.messages.Data as data_type
 use Rattle.limits.specs.declared.messages.Reply as reply_type
+use Rattle.limits.specs.declared.messages.Message as message_type
 use Rattle.limits.specs.Questions.{pick}
 use Rattle.limits.specs.Cells.{legal_row}
 use Rattle.limits.specs.Ring.{distance}
 
--- `life` is the ticks that are left to it
-pub record Message (B : Type 0) : Type 0 where
-  pub body : B
-  pub life : ℕ
+-- a message of what it carries
+abbrev pub Message : Type 0 → Type 0
+Message B = message_type.Message B
 
 -- what messages carry: a row under its number (a data packet), the numbers from first to last (a block acknowledgment)
 abbrev pub Data : Type 0

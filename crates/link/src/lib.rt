@@ -7,7 +7,7 @@ ghost use Rattle.events.specs.Lent.{numbers_of, link_of, arrays};
 ghost use Rattle.runs.specs.View.{Stepped, Ran};
 ghost use Rattle.link.specs.View.{fresh_link, Opened};
 
-use air::{datatable, replytable};
+use air::table::{DataTable, ReplyTable};
 use events::moves::Numbers;
 use events::{Link, Progress};
 use limits::Limits;
@@ -22,8 +22,8 @@ fn fresh(limits: Limits) -> Link
         limits,
         mat: Mat::fresh(),
         pad: Pad::fresh(),
-        datas: datatable::empty(),
-        replies: replytable::empty(),
+        datas: DataTable::empty(),
+        replies: ReplyTable::empty(),
     }
 }
 
@@ -47,8 +47,8 @@ fn numbers_of(k: Link) -> Numbers
         oldest: m.oldest,
         next: m.next,
         wanted: p.wanted,
-        datas: datatable::count_of(d),
-        replies: replytable::count_of(r),
+        datas: d.count_of(),
+        replies: r.count_of(),
     }
 }
 
@@ -82,8 +82,8 @@ fn joined(
             timers: padtimers,
             cells: padcells,
         },
-        datas: datatable::assembled(n.datas, datas),
-        replies: replytable::assembled(n.replies, replies),
+        datas: DataTable::assembled(n.datas, datas),
+        replies: ReplyTable::assembled(n.replies, replies),
     }
 }
 
@@ -101,8 +101,8 @@ pub fn sound(k: Link) -> bool
     let held = p.held;
     let padtimers = p.timers;
     let padcells = p.cells;
-    let datas = datatable::words_of(k.datas);
-    let replies = replytable::words_of(k.replies);
+    let datas = k.datas.words_of();
+    let replies = k.replies.words_of();
     runs::lent_sound(
         l, n, &marks, &mattimers, &matcells, &held, &padtimers, &padcells, &datas, &replies,
     )
@@ -123,8 +123,8 @@ pub fn step(k: Link, kind: u8, argument: u8, supply: &[u16], record: &mut [u16])
     let mut held = p.held;
     let mut padtimers = p.timers;
     let mut padcells = p.cells;
-    let mut datas = datatable::words_of(k.datas);
-    let mut replies = replytable::words_of(k.replies);
+    let mut datas = k.datas.words_of();
+    let mut replies = k.replies.words_of();
     let s = runs::lent_step(
         l,
         n,
@@ -174,8 +174,8 @@ pub fn run(
     let mut held = p.held;
     let mut padtimers = p.timers;
     let mut padcells = p.cells;
-    let mut datas = datatable::words_of(k.datas);
-    let mut replies = replytable::words_of(k.replies);
+    let mut datas = k.datas.words_of();
+    let mut replies = k.replies.words_of();
     let s = runs::lent_run(
         l,
         n,

@@ -1,9 +1,7 @@
 // The calls of the two tables.
-use air::datatable::DataTable;
-use air::messages::{DataMessage, ReplyMessage};
-use air::replytable::ReplyTable;
-use air::{datatable, replytable};
+use air::table::{DataTable, ReplyTable};
 use limits::Limits;
+use limits::messages::{Data, Message, Reply};
 use std::io;
 use tries::line;
 
@@ -13,44 +11,30 @@ fn put_data(
     what: &[u8],
     l: Limits,
     count: usize,
-    number: u16,
+    number: usize,
     life: u16,
     cell: u16,
 ) -> io::Result<()> {
-    let r = datatable::put(
-        l,
-        data_of(count),
-        DataMessage {
-            number,
-            life,
-            row: [cell; 16],
-        },
-    );
-    let answer = r.answer;
-    line(rt, what, answer)
+    let row = [cell; 16];
+    let body = Data { number, row };
+    line(rt, what, data_of(count).put(l, Message { body, life }))
 }
 
 fn remove_data(rt: &impl Print, what: &[u8], l: Limits, count: usize, p: usize) -> io::Result<()> {
-    let r = datatable::remove(l, data_of(count), p);
-    let answer = r.answer;
-    line(rt, what, answer)
+    line(rt, what, data_of(count).remove(l, p))
 }
 
 fn read_data(rt: &impl Print, what: &[u8], l: Limits, count: usize, p: usize) -> io::Result<()> {
-    let r = datatable::read(l, data_of(count), p);
-    let answer = r.answer;
-    line(rt, what, answer)
+    line(rt, what, data_of(count).read(l, p))
 }
 
 fn tick_data(rt: &impl Print, what: &[u8], l: Limits, count: usize, d: u16) -> io::Result<()> {
-    let r = datatable::tick(l, data_of(count), d);
-    let answer = r.answer;
-    line(rt, what, answer)
+    line(rt, what, data_of(count).tick(l, d))
 }
 
 // A data table of `count` messages. Each word is 1: the life, the number and the cells.
 fn data_of(count: usize) -> DataTable {
-    datatable::assembled(count, [1; 576])
+    DataTable::assembled(count, [1; 576])
 }
 
 // Tables whose one message has a life of 0, the number 4 or a cell of 4096.
@@ -58,19 +42,13 @@ fn data_unsound(rt: &impl Print) -> io::Result<()> {
     let l = tries::of(2, 1, 4);
     let mut t = data_of(1);
     t.words[0] = 0;
-    let removed = datatable::remove(l, t, 0);
-    let mut answer = removed.answer;
-    line(rt, b"data remove, life 0 in the table", answer)?;
+    line(rt, b"data remove, life 0 in the table", t.remove(l, 0))?;
     t = data_of(1);
     t.words[1] = 4;
-    let ticked = datatable::tick(l, t, 1);
-    answer = ticked.answer;
-    line(rt, b"data tick, number 2w in the table", answer)?;
+    line(rt, b"data tick, number 2w in the table", t.tick(l, 1))?;
     t = data_of(1);
     t.words[17] = 4096;
-    let read = datatable::read(l, t, 0);
-    answer = read.answer;
-    line(rt, b"data read, cell 4096 in the table", answer)
+    line(rt, b"data read, cell 4096 in the table", t.read(l, 0))
 }
 
 pub fn data_tries(rt: &impl Print) -> io::Result<()> {
@@ -106,36 +84,29 @@ fn put_reply(
     what: &[u8],
     l: Limits,
     count: usize,
-    first: u16,
-    last: u16,
+    first: usize,
+    last: usize,
     life: u16,
 ) -> io::Result<()> {
-    let r = replytable::put(l, replies_of(count), ReplyMessage { first, last, life });
-    let answer = r.answer;
-    line(rt, what, answer)
+    let body = Reply { first, last };
+    line(rt, what, replies_of(count).put(l, Message { body, life }))
 }
 
 fn remove_reply(rt: &impl Print, what: &[u8], l: Limits, count: usize, p: usize) -> io::Result<()> {
-    let r = replytable::remove(l, replies_of(count), p);
-    let answer = r.answer;
-    line(rt, what, answer)
+    line(rt, what, replies_of(count).remove(l, p))
 }
 
 fn read_reply(rt: &impl Print, what: &[u8], l: Limits, count: usize, p: usize) -> io::Result<()> {
-    let r = replytable::read(l, replies_of(count), p);
-    let answer = r.answer;
-    line(rt, what, answer)
+    line(rt, what, replies_of(count).read(l, p))
 }
 
 fn tick_reply(rt: &impl Print, what: &[u8], l: Limits, count: usize, d: u16) -> io::Result<()> {
-    let r = replytable::tick(l, replies_of(count), d);
-    let answer = r.answer;
-    line(rt, what, answer)
+    line(rt, what, replies_of(count).tick(l, d))
 }
 
 // A reply table of `count` messages. Each word is 1: the life, the first and the last number.
 fn replies_of(count: usize) -> ReplyTable {
-    replytable::assembled(count, [1; 96])
+    ReplyTable::assembled(count, [1; 96])
 }
 
 // Tables whose one message has a life of 0, the first number 4 or the last number 3.
@@ -143,19 +114,13 @@ fn replies_unsound(rt: &impl Print) -> io::Result<()> {
     let l = tries::of(2, 1, 4);
     let mut t = replies_of(1);
     t.words[0] = 0;
-    let removed = replytable::remove(l, t, 0);
-    let mut answer = removed.answer;
-    line(rt, b"reply remove, life 0 in the table", answer)?;
+    line(rt, b"reply remove, life 0 in the table", t.remove(l, 0))?;
     t = replies_of(1);
     t.words[1] = 4;
-    let ticked = replytable::tick(l, t, 1);
-    answer = ticked.answer;
-    line(rt, b"reply tick, number 2w in the table", answer)?;
+    line(rt, b"reply tick, number 2w in the table", t.tick(l, 1))?;
     t = replies_of(1);
     t.words[2] = 3;
-    let read = replytable::read(l, t, 0);
-    answer = read.answer;
-    line(rt, b"reply read, span 3 of 2 in the table", answer)
+    line(rt, b"reply read, span 3 of 2 in the table", t.read(l, 0))
 }
 
 pub fn reply_tries(rt: &impl Print) -> io::Result<()> {

@@ -10,11 +10,11 @@ ghost use Rattle.events.specs.Lent.{arrays, link_of, progress_of};
 ghost use Rattle.runs.specs.View.{lent_asks, Stepped, Ran};
 
 use air::lent;
-use air::lent::Kind;
 use events::moves;
 use events::moves::{Numbers, Step};
 use limits::Limits;
 use limits::answer::Refusal;
+use limits::messages::{Data, Reply};
 use lists::lentrun;
 use mat::soundmat;
 use pad::soundpad;
@@ -39,8 +39,8 @@ pub fn lent_sound(
     limits::sound_limits(l)
         && (soundmat::mat_sound(l, n.oldest, n.next, marks, mattimers, matcells)
             && (soundpad::pad_sound(l, n.wanted, held, padtimers, padcells)
-                && (lent::table_sound(l, Kind::OfData, n.datas, datas)
-                    && lent::table_sound(l, Kind::OfReplies, n.replies, replies))))
+                && (lent::table_sound::<Data>(l, n.datas, datas)
+                    && lent::table_sound::<Reply>(l, n.replies, replies))))
 }
 
 // The call for one event: 4, 6, then the event's questions. It is a run of one event: the event is then called from one place, and

@@ -1,5 +1,5 @@
 // Question 4 by itself.
-use air::{datatable, replytable};
+use air::table::{DataTable, ReplyTable};
 use limits::answer::Refusal;
 use mat::Mat;
 use pad::Pad;
@@ -35,22 +35,22 @@ fn sound_tables(rt: &impl Print) -> io::Result<()> {
     sound(
         rt,
         b"data table, 32 messages",
-        datatable::sound(l, datatable::assembled(32, [1; 576])),
+        DataTable::assembled(32, [1; 576]).is_sound(l),
     )?;
     sound(
         rt,
         b"data table, count 33",
-        datatable::sound(l, datatable::assembled(33, [1; 576])),
+        DataTable::assembled(33, [1; 576]).is_sound(l),
     )?;
     sound(
         rt,
         b"reply table, 32 messages",
-        replytable::sound(l, replytable::assembled(32, [1; 96])),
+        ReplyTable::assembled(32, [1; 96]).is_sound(l),
     )?;
     sound(
         rt,
         b"reply table, count largest",
-        replytable::sound(l, replytable::assembled(18446744073709551615, [1; 96])),
+        ReplyTable::assembled(18446744073709551615, [1; 96]).is_sound(l),
     )
 }
 

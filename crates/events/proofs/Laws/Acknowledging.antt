@@ -10,33 +10,26 @@ use Rattle.limits.specs.Lists.{all}
 use Rattle.limits.specs.Questions.{first_no}
 use Rattle.limits.specs.Tables.{Reply, remove, no_reply}
 use Rattle.limits.specs.Events.{arrive_reply}
-use Rattle.limits.proofs.Laws.Promise.{called-done, none-no}
+use Rattle.limits.proofs.Laws.Promise.{called-done}
 use Rattle.limits.proofs.Laws.Questions.{behind-passed}
 use Rattle.mat.specs.declared.Mat.{Mat}
 use Rattle.mat.specs.Rules.{Acknowledging, acknowledge_questions, acknowledging}
 use Rattle.mat.specs.View.{mat_state, AcknowledgeCall}
 use Rattle.pad.specs.View.{pad_state}
-use Rattle.air.specs.declared.replytable.ReplyTable.{ReplyTable}
-use Rattle.air.specs.declared.changes.FoundReply.{FoundReply}
 use Rattle.air.specs.Rules.{place_questions}
 use Rattle.air.specs.Data.{data_messages}
-use Rattle.air.specs.Replies.{reply_messages, ReplyHolds, ReplyFound}
+use Rattle.air.specs.Replies.{ReplyTable, reply_messages, ReplyHolds, ReplyFound}
 use Rattle.events.specs.declared.Link.{Link}
 use Rattle.events.specs.State.{acknowledged_by}
 use Rattle.events.specs.View.{link_state, Moves}
 use Rattle.events.proofs.Laws.Parts.{Parts, whole}
-use Rattle.events.proofs.Laws.Messages.{reply-is}
 
-module _ (k : Link) (p : Parts k) (n : ℕ) (read : FoundReply) (c : ReplyFound k.replies n read)
-    (e : number_of read.answer ≡ 0) where
-  abbrev body : Reply
-  body = record { first = read.first; last = read.last }
-
+module _ (k : Link) (p : Parts k) (n : ℕ) (body : Reply) (c : ReplyFound k.replies n (Ok body)) where
   passes : first_no (place_questions n (reply_messages k.replies)) ≡ 0
-  passes = none-no _ _ _ _ _ c e
+  passes = sym c.number
 
   body_is : body ≡ (get_or (reply_messages k.replies) n no_reply).body
-  body_is = reply-is k.limits k.replies n read c e
+  body_is = c.value
 
   module _ (r : Result ℕ Refusal) (m : Mat)
       (ca : AcknowledgeCall k.limits (acknowledge_questions k.limits (mat_state k.limits.window k.mat) body) r

@@ -12,11 +12,10 @@ use Rattle.limits.specs.Questions.{Question, ask, first_no, Called}
 use Rattle.limits.specs.Tables.{Data, capacity, no_data}
 use Rattle.limits.specs.Events.{arrive_data}
 use Rattle.limits.proofs.Laws.Choice.{pick_yes, pick_no}
-use Rattle.limits.proofs.Laws.Promise.{called-as, called-done, none-no}
+use Rattle.limits.proofs.Laws.Promise.{called-as, called-done}
 use Rattle.limits.proofs.Laws.Questions.{behind-passed}
 use Rattle.pad.specs.Rules.{Arrival, arrival}
 use Rattle.pad.specs.View.{pad_state}
-use Rattle.air.specs.declared.changes.FoundData.{FoundData}
 use Rattle.air.specs.Rules.{place_questions, room_questions}
 use Rattle.air.specs.Data.{data_messages, DataFound}
 use Rattle.air.specs.Replies.{reply_messages}
@@ -26,7 +25,6 @@ use Rattle.events.specs.State.{no_counts, unmoved}
 use Rattle.events.specs.Rules.{old_taken, new_taken, taken}
 use Rattle.events.specs.View.{link_state, sound_link, shown, Moves}
 use Rattle.events.proofs.Laws.Parts.{Parts}
-use Rattle.events.proofs.Laws.Messages.{data_is}
 
 -- question 18 is put of an old row alone
 old-asked : (o b : Bool) → o ≡ true → (not o || b) ≡ b
@@ -35,11 +33,7 @@ old-asked o b e = rw e
 new-passes : (o b : Bool) → o ≡ false → (not o || b) ≡ true
 new-passes o b e = rw e
 
-module _ (k : Link) (p : Parts k) (n : ℕ) (read : FoundData) (c : DataFound k.datas n read)
-    (e : number_of read.answer ≡ 0) where
-  abbrev body : Data
-  body = record { number = read.number; row = read.row }
-
+module _ (k : Link) (p : Parts k) (n : ℕ) (body : Data) (c : DataFound k.datas n (Ok body)) where
   -- the message of the table, and what the pad makes of it
   abbrev in_table : Data
   in_table = (get_or (data_messages k.datas) n no_data).body
@@ -48,10 +42,10 @@ module _ (k : Link) (p : Parts k) (n : ℕ) (read : FoundData) (c : DataFound k.
   made = arrival k.limits (pad_state k.limits.window k.pad) in_table
 
   passes : first_no (place_questions n (data_messages k.datas)) ≡ 0
-  passes = none-no _ _ _ _ _ c e
+  passes = sym c.number
 
   body_is : body ≡ in_table
-  body_is = data_is k.limits k.datas n read c e
+  body_is = c.value
 
   -- what the pad makes of the message that was read
   module _ (a : Arrival) (is : arrival k.limits (pad_state k.limits.window k.pad) body ≡ a) where

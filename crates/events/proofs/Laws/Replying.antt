@@ -7,6 +7,7 @@ use native.Mathlib.Omega.{arith}
 use lib.Dec.{eqb, leb, ltb}
 use lib.ListN.{length}
 use borrow.Author.Tests.{ltb-true, lt-ltb, le-leb, lt-leb}
+use Rattle.air.specs.Replies.{ReplyTable}
 use Rattle.limits.specs.declared.Limits.{Limits}
 use Rattle.std.specs.Prelude.{Ok}
 use Rattle.limits.specs.Limits.{sound_limits}
@@ -24,7 +25,6 @@ use Rattle.pad.specs.Window.{PadState}
 use Rattle.pad.specs.Rules.{Replying, run, run_questions, reply_questions, replying}
 use Rattle.pad.specs.View.{pad_state, sound_pad}
 use Rattle.pad.proofs.Laws.Messages.{run-most}
-use Rattle.air.specs.declared.replytable.ReplyTable.{ReplyTable}
 use Rattle.air.specs.Rules.{room_questions}
 use Rattle.air.specs.Data.{data_messages}
 use Rattle.air.specs.Replies as air

@@ -14,9 +14,8 @@ use Rattle.mat.specs.declared.Mat.{Mat}
 use Rattle.mat.specs.Rules.{Sending}
 use Rattle.mat.specs.View.{SendCall}
 use Rattle.pad.specs.View.{pad_state}
-use Rattle.air.specs.declared.datatable.DataTable.{DataTable}
 use Rattle.air.specs.Rules.{room_questions}
-use Rattle.air.specs.Data.{data_messages, DataHolds}
+use Rattle.air.specs.Data.{DataTable, data_messages, DataHolds}
 use Rattle.air.specs.Replies.{reply_messages}
 use Rattle.events.specs.declared.Link.{Link}
 use Rattle.events.specs.State.{Moved, unmoved}

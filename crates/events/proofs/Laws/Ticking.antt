@@ -12,10 +12,8 @@ use Rattle.mat.specs.declared.Mat.{Mat}
 use Rattle.pad.specs.View as pad
 use Rattle.pad.specs.Rules as pad_rules
 use Rattle.pad.specs.declared.Pad.{Pad}
-use Rattle.air.specs.declared.datatable.DataTable.{DataTable}
-use Rattle.air.specs.declared.replytable.ReplyTable.{ReplyTable}
-use Rattle.air.specs.Data.{data_messages, DataHolds}
-use Rattle.air.specs.Replies.{reply_messages, ReplyHolds}
+use Rattle.air.specs.Data.{DataTable, data_messages, DataHolds}
+use Rattle.air.specs.Replies.{ReplyTable, reply_messages, ReplyHolds}
 use Rattle.events.specs.declared.Link.{Link}
 use Rattle.events.specs.declared.Progress.{Progress}
 use Rattle.events.specs.View.{link_state, Moves}

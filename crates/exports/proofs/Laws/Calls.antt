@@ -12,11 +12,12 @@ use Rattle.std.specs.Prelude.{Result, Ok, Err}
 use Rattle.limits.specs.declared.answer.Refusal.{Refusal}
 use Rattle.limits.specs.Answer.{number_of}
 use Rattle.limits.specs.Limits.{limits_questions, accepted, zero_limits}
-use Rattle.limits.specs.Questions.{pick, Question, ask, first_no, Answers, Answered, Called}
-use Rattle.limits.proofs.Laws.Choice.{test, pick_yes, pick_no, pick_under, pick-cases}
+use Rattle.limits.specs.Questions.{pick, Question, ask, Answered, Called}
+use Rattle.limits.proofs.Laws.Choice.{test, pick_yes, pick_no}
 use Rattle.limits.proofs.Laws.Good.{good}
 use Rattle.limits.proofs.Laws.Promise.{unsound-first}
-use Rattle.air.proofs.Laws.Typed.{data-count, reply-count}
+use Rattle.air.specs.Forms.{data_form, reply_form}
+use Rattle.air.proofs.Laws.Forms.{count-few}
 use Rattle.events.specs.declared.Link.{Link}
 use Rattle.events.specs.declared.Progress.{Progress}
 use Rattle.events.specs.declared.moves.Numbers.{Numbers}
@@ -41,7 +42,7 @@ pub small : (l : Limits) (n : Numbers) (a : Arrays) → sound_link (link_of l n 
     → (l.window < 65536) × (n.oldest < 65536) × (n.next < 65536) × (n.wanted < 65536) × (n.datas < 65536) × (n.replies < 65536)
 small l n a e =
     let p = parts (link_of l n a) e in let g = good l p.limits in let m = mat-numbers (link_of l n a) p in let q = pad-number (link_of l n a) p in
-    let d = data-count l (link_of l n a).datas p.datas in let r = reply-count l (link_of l n a).replies p.replies in
+    let d = count-few data_form _ _ l p.datas in let r = count-few reply_form _ _ l p.replies in
     (omega arith, omega arith, omega arith, omega arith, omega arith, omega arith)
 
 -- a call that puts question 4 first and was done leaves a sound link

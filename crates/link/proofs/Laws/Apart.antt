@@ -9,10 +9,8 @@ use Rattle.mat.specs.declared.Mat.{Mat}
 use Rattle.mat.specs.View.{mat_of}
 use Rattle.pad.specs.declared.Pad.{Pad}
 use Rattle.pad.specs.View.{pad_of}
-use Rattle.air.specs.declared.datatable.DataTable.{DataTable}
-use Rattle.air.specs.declared.replytable.ReplyTable.{ReplyTable}
-use Rattle.air.specs.Data.{data_table}
-use Rattle.air.specs.Replies.{reply_table}
+use Rattle.air.specs.Data.{DataTable, data_table}
+use Rattle.air.specs.Replies.{ReplyTable, reply_table}
 use Rattle.events.specs.declared.Link.{Link}
 use Rattle.events.specs.declared.Counts.{Counts}
 use Rattle.events.specs.declared.Progress.{Progress}

@@ -9,10 +9,8 @@ use Rattle.mat.specs.declared.Mat.{Mat}
 use Rattle.mat.specs.View.{fresh_mat}
 use Rattle.pad.specs.declared.Pad.{Pad}
 use Rattle.pad.specs.View.{fresh_pad}
-use Rattle.air.specs.declared.datatable.DataTable.{DataTable}
-use Rattle.air.specs.declared.replytable.ReplyTable.{ReplyTable}
-use Rattle.air.specs.Data.{empty_data}
-use Rattle.air.specs.Replies.{empty_replies}
+use Rattle.air.specs.Data.{DataTable, empty_data}
+use Rattle.air.specs.Replies.{ReplyTable, empty_replies}
 use Rattle.limits.proofs.Laws.Choice.{pick_under}
 use Rattle.link.specs.View.{fresh_link}
 

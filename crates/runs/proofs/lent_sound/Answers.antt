@@ -1,7 +1,5 @@
 use mathlib.Core.Path.{sym, ◌∙◌}
 use Rattle.limits.proofs.Laws.Choice.{and-goes-on, and-stops}
-use Rattle.air.specs.Kinds.{lent}
-use Rattle.air.proofs.Laws.Typed.{data-sound, reply-sound}
 use Rattle.events.specs.View.{sound_link}
 use Rattle.std.proofs.Common.{rules}
 use Rattle.runs.proofs.lent_sound.Goals as goal
@@ -20,11 +18,11 @@ table_sound-requires-then-table_sound c = ((sym c.sound_limits.ensures ∙ c.if-
 
 pub returns-then-table_sound : goal.returns-then-table_sound
 unfolding sound_link
-returns-then-table_sound c = c.table_sound-then-table_sound.ensures ∙ (sym (reply-sound c.args.l (lent c.args.n.replies c.args.replies.now))) ∙ and-goes-on _ _ (sym (c.table_sound.ensures ∙ (sym (data-sound c.args.l (lent c.args.n.datas c.args.datas.now)))) ∙ c.if-table_sound.true) ∙ and-goes-on _ _ (sym c.pad_sound.ensures ∙ c.if-pad_sound.true) ∙ and-goes-on _ _ (sym c.mat_sound.ensures ∙ c.if-mat_sound.true) ∙ and-goes-on _ _ (sym c.sound_limits.ensures ∙ c.if-sound_limits.true)
+returns-then-table_sound c = c.table_sound-then-table_sound.ensures ∙ and-goes-on _ _ (sym (c.table_sound.ensures) ∙ c.if-table_sound.true) ∙ and-goes-on _ _ (sym c.pad_sound.ensures ∙ c.if-pad_sound.true) ∙ and-goes-on _ _ (sym c.mat_sound.ensures ∙ c.if-mat_sound.true) ∙ and-goes-on _ _ (sym c.sound_limits.ensures ∙ c.if-sound_limits.true)
 
 pub returns-else-table_sound : goal.returns-else-table_sound
 unfolding sound_link
-returns-else-table_sound c = c.table_sound.ensures ∙ (sym (data-sound c.args.l (lent c.args.n.datas c.args.datas.now))) ∙ and-stops _ _ (sym (c.table_sound.ensures ∙ (sym (data-sound c.args.l (lent c.args.n.datas c.args.datas.now)))) ∙ c.if-table_sound.false) ∙ and-goes-on _ _ (sym c.pad_sound.ensures ∙ c.if-pad_sound.true) ∙ and-goes-on _ _ (sym c.mat_sound.ensures ∙ c.if-mat_sound.true) ∙ and-goes-on _ _ (sym c.sound_limits.ensures ∙ c.if-sound_limits.true)
+returns-else-table_sound c = c.table_sound.ensures ∙ and-stops _ _ (sym (c.table_sound.ensures) ∙ c.if-table_sound.false) ∙ and-goes-on _ _ (sym c.pad_sound.ensures ∙ c.if-pad_sound.true) ∙ and-goes-on _ _ (sym c.mat_sound.ensures ∙ c.if-mat_sound.true) ∙ and-goes-on _ _ (sym c.sound_limits.ensures ∙ c.if-sound_limits.true)
 
 pub returns-else-pad_sound : goal.returns-else-pad_sound
 unfolding sound_link

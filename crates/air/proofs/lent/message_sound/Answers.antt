@@ -1,10 +1,15 @@
 use mathlib.Core.Path.{sym, ◌∙◌}
-use Rattle.limits.proofs.Laws.Choice.{and-goes-on, and-stops}
-use Rattle.air.proofs.Laws.Words.{message-asked}
+use Rattle.limits.specs.Limits.{between}
+use Rattle.limits.proofs.Laws.Choice.{and-goes-on, and-no-left}
+use Rattle.air.specs.Rules.{sound_message}
 use Rattle.air.proofs.lent.message_sound.Goals as goal
 
-pub returns-then-head_sound : goal.returns-then-head_sound
-returns-then-head_sound c = c.cells_sound.ensures ∙ and-goes-on _ _ (sym c.head_sound.ensures ∙ c.if-head_sound.true) ∙ message-asked c.args.l c.args.kind c.args.words.now c.args.at c.requires.0 c.requires.1
+pub returns-then-within : goal.returns-then-within
+unfolding sound_message
+returns-then-within g c =
+    c.is_sound.ensures ∙ and-goes-on (between 1 (g.M.Carried.form.longest c.args.l) c.args.message.life) _ (rw c.longest.ensures at (sym c.within.ensures ∙ c.if-within.true))
 
-pub returns-else-head_sound : goal.returns-else-head_sound
-returns-else-head_sound c = c.head_sound.ensures ∙ and-stops _ _ (sym c.head_sound.ensures ∙ c.if-head_sound.false) ∙ message-asked c.args.l c.args.kind c.args.words.now c.args.at c.requires.0 c.requires.1
+pub returns-else-within : goal.returns-else-within
+unfolding sound_message
+returns-else-within g c =
+    c.if-within.false ∙ sym (and-no-left (between 1 (g.M.Carried.form.longest c.args.l) c.args.message.life) _ (rw c.longest.ensures at (sym c.within.ensures ∙ c.if-within.false)))

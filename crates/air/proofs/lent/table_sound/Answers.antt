@@ -1,42 +1,46 @@
-use mathlib.Core.Path.{refl, sym}
+use Prim.Native.Nat.{◌+◌, ◌*◌, ◌≤◌}
+use mathlib.Core.Path.{◌≡◌, sym, ◌∙◌, ap}
 use native.Mathlib.Omega.{arith}
 use native.Mathlib.Nat.{mul-zero}
+use lib.ListN.{length}
 use Rattle.limits.proofs.Laws.Lists.{all_start}
-use Rattle.tables.specs.Words.{messages}
-use Rattle.tables.proofs.Laws.Words.{starts_by}
-use Rattle.air.specs.Kinds.{width_of, sound_lent}
-use Rattle.air.proofs.Laws.Sound.{too_many, all_asked}
-use Rattle.air.proofs.Laws.Typed.{length-messages}
-use Rattle.air.proofs.Laws.Words.{word_fits, at_next, asked-next, asked-end}
+use Rattle.tables.proofs.Laws.Words.{next-starts}
+use Rattle.air.proofs.Laws.Forms.{words-fit, word_fits, asked-next, asked-end, asked-many}
 use Rattle.air.proofs.lent.table_sound.Goals as goal
 
 pub returns-then-count-gt32 : goal.returns-then-count-gt32
-unfolding sound_lent
-returns-then-count-gt32 c = too_many _ _ _ (let h = length-messages (width_of c.args.kind) c.args.count c.args.words.now in omega arith)
+returns-then-count-gt32 g c = asked-many g.M.Carried.form g.met.M.Carried.laws c.args.l c.args.words.now c.args.count c.if-count-gt32.true
 
 pub loop-i-init : goal.loop-i-init
-loop-i-init c = (omega arith, omega arith, c.width-w.ensures, sym (mul-zero _), sym (all_start _ _))
+loop-i-init g c = (omega arith, omega arith, sym (mul-zero _), sym (all_start _ _))
 
 pub head_sound-requires : goal.head_sound-requires
-head_sound-requires c = (c.requires.0, word_fits _ _ _ _ _ _ c.loop-i.invariant.3 c.loop-i.invariant.2 c.loop-i-test.true c.loop-i.invariant.1 c.requires.1)
+head_sound-requires g c =
+    let inv = c.loop-i.invariant in
+    (c.requires.0, rw inv.2 (word_fits g.M.Carried.form.width c.loop-i.i (length c.args.words.now) (omega arith) c.requires.1))
 
 pub overflow_add-at : goal.overflow_add-at
-overflow_add-at c = let h = word_fits _ _ _ _ _ _ c.loop-i.invariant.3 c.loop-i.invariant.2 c.loop-i-test.true c.loop-i.invariant.1 c.requires.1 in omega arith
-
-pub overflow_add-i : goal.overflow_add-i
-overflow_add-i c = omega arith
-
-pub loop-i-smaller : goal.loop-i-smaller
-loop-i-smaller c = omega arith
+overflow_add-at g c =
+    let inv = c.loop-i.invariant in
+    let is : c.WIDTH-at.result ≡ g.M.Carried.form.width = c.WIDTH-at.ensures ∙ g.met.M.Carried.width_is in
+    let h : g.M.Carried.form.width * c.loop-i.i + g.M.Carried.form.width ≤ length c.args.words.now
+    = word_fits g.M.Carried.form.width c.loop-i.i (length c.args.words.now) (omega arith) c.requires.1 in
+    omega arith
 
 pub loop-i-preserved : goal.loop-i-preserved
-loop-i-preserved c = (omega arith, omega arith, c.loop-i.invariant.2, at_next _ _ _ c.loop-i.invariant.3, asked-next c.args.l c.args.kind c.args.words.now _ _ _ _ _ c.both-good.ensures c.loop-i.invariant.4 c.head_sound.ensures c.loop-i.invariant.3 c.loop-i.invariant.2)
+loop-i-preserved g c =
+    let inv = c.loop-i.invariant in
+    let form = g.M.Carried.form in (
+      omega arith,
+      omega arith,
+      ap (c.loop-i.at +◌) (c.WIDTH-at.ensures ∙ g.met.M.Carried.width_is) ∙ ap (◌+ form.width) inv.2 ∙ sym (next-starts form.width c.loop-i.i),
+      asked-next form g.met.M.Carried.laws c.args.l c.args.words.now form.width c.loop-i.i c.loop-i.at _ _ c.both-good.ensures inv.3 c.head_sound.ensures inv.2,
+    )
 
 pub cells_sound-requires : goal.cells_sound-requires
-cells_sound-requires c = let h = starts_by (width_of c.args.kind) c.args.count 32 c.loop-i.invariant.1 in omega arith
+cells_sound-requires g c = words-fit g.M.Carried.form.width c.args.count (length c.args.words.now) c.loop-i.invariant.1 c.requires.1
 
 pub returns : goal.returns
-unfolding sound_lent messages
-returns c =
+returns g c =
     let inv = c.loop-i.invariant in
-    all_asked _ _ c.args.count _ _ _ (asked-end c.args.l c.args.kind c.args.words.now c.args.count _ _ _ c.requires.0 c.requires.1 inv.1 (omega arith) c.both.ensures inv.4 c.cells_sound.ensures) refl inv.1
+    asked-end g.M.Carried.form g.met.M.Carried.laws c.args.l c.args.words.now c.args.count c.loop-i.i _ _ c.requires.0 c.requires.1 inv.1 (omega arith) c.both.ensures inv.3 c.cells_sound.ensures

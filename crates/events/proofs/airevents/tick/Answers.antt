@@ -8,4 +8,4 @@ use Rattle.events.proofs.airevents.tick.Goals as goal
 
 pub returns : goal.returns
 returns c = λ marks held matcells padcells supply b h. let p = parts _ h in
-    ticks _ p _ _ _ _ _ (c.tick.ensures c.args.n.oldest c.args.n.next marks matcells p.mat) (c.tick-2.ensures c.args.n.wanted held padcells p.pad) (c.age_data-left.ensures c.args.l p.datas) (c.age_replies-replied.ensures c.args.l p.replies) _ supply b (stayed-as _ _ _ _ _ _ (c.with_replies-after.ensures ∙ ap (λ (x : Numbers). with_replies x c.age_replies-replied.result) c.with_datas.ensures) c.stays.ensures)
+    ticks _ p _ _ _ _ _ (c.tick.ensures c.args.n.oldest c.args.n.next marks matcells p.mat) (c.tick-2.ensures c.args.n.wanted held padcells p.pad) (c.age-left.ensures c.args.l p.datas) (c.age-replied.ensures c.args.l p.replies) _ supply b (stayed-as _ _ _ _ _ _ (c.with_replies-after.ensures ∙ ap (λ (x : Numbers). with_replies x c.age-replied.result) c.with_datas.ensures) c.stays.ensures)

@@ -5,7 +5,6 @@ use Rattle.limits.specs.Lists.{all}
 use Rattle.limits.specs.Tables.{sound_data}
 use Rattle.limits.proofs.Laws.Promise.{refusal-not-0, ok-passed}
 use Rattle.limits.proofs.Laws.Questions.{more_stays, more-fails}
-use Rattle.limits.proofs.Laws.Messages.{message-legal}
 use Rattle.mat.specs.Rules.{resend_questions, Sending}
 use Rattle.mat.specs.View.{mat_of, mat_state}
 use Rattle.mat.proofs.Laws.Calls.{due-there, due-is, due-low, resend-done}
@@ -18,6 +17,9 @@ use Rattle.events.proofs.Laws.Parts.{parts}
 use Rattle.events.proofs.Laws.Stays.{stayed-as, lent-refused, stays-as}
 use Rattle.events.proofs.Laws.Tables.{data-room}
 use Rattle.events.proofs.Laws.Sending.{sends}
+use native.Mathlib.Omega.{arith}
+use Rattle.limits.proofs.Laws.Good.{good}
+use Rattle.std.proofs.Common.{rules}
 use Rattle.events.proofs.matevents.resend.Goals as goal
 
 pub due-requires : goal.due-requires
@@ -31,16 +33,16 @@ returns-in-Err c = let u = c.due in let z = refusal-not-0 c.in-Err.refusal in
 pub again-row-requires : goal.again-row-requires
 again-row-requires c = let u = c.due in let l = c.args.l in let m = mat_of c.args.n.oldest c.args.n.next c.args.marks.now c.args.mattimers.now c.args.matcells.now in let a = u.ensures c.args.matcells.now in let e = c.in-Ok.is in (c.requires.0, due-low l m c.args.k _ _ a e c.requires.0 c.requires.1)
 
-pub put_data-count-requires : goal.put_data-count-requires
-put_data-count-requires c = let u = c.due in let l = c.args.l in let m = mat_of c.args.n.oldest c.args.n.next c.args.marks.now c.args.mattimers.now c.args.matcells.now in let a = u.ensures c.args.matcells.now in let e = c.in-Ok.is in (c.requires.0, ltb-true c.args.n.datas 32 (sym c.room.ensures ∙ c.if-room.true), due-low l m c.args.k _ _ a e c.requires.0 c.requires.1)
+pub put-count-requires : goal.put-count-requires
+put-count-requires c = let u = c.due in let l = c.args.l in let m = mat_of c.args.n.oldest c.args.n.next c.args.marks.now c.args.mattimers.now c.args.matcells.now in let a = u.ensures c.args.matcells.now in let e = c.in-Ok.is in (c.requires.0, ltb-true c.args.n.datas 32 (sym c.room.ensures ∙ c.if-room.true), (let g = good l c.requires.0 in let h = due-low l m c.args.k _ _ a e c.requires.0 c.requires.1 in omega arith), search rules)
 
 pub returns-then-room : goal.returns-then-room
 unfolding link_state all
 returns-then-room c = let u = c.due in let l = c.args.l in let m = mat_of c.args.n.oldest c.args.n.next c.args.marks.now c.args.mattimers.now c.args.matcells.now in let a = u.ensures c.args.matcells.now in let e = c.in-Ok.is in
     let v = c.again-row.ensures c.args.n.oldest c.args.n.next c.args.marks.now c.args.k c.requires.1 (due-there l m c.args.k _ _ a e) (due-is l m c.args.k _ _ a e) in
-    let legal = message-legal l c.in-Ok.number c.again-row.result (ap (λ (x : Sending). sound_data l x.message) v.1 ∙ resending-sound l m c.requires.0 c.requires.1 c.args.k (ok-passed _ _ _ _ a e)) in
+    let sound = ap (λ (x : Sending). sound_data l x.message) v.1 ∙ resending-sound l m c.requires.0 c.requires.1 c.args.k (ok-passed _ _ _ _ a e) in
     λ held padtimers padcells replies supply b h.
-    stays-as _ _ _ _ _ b _ (stayed-as _ _ _ _ _ _ c.with_datas.ensures c.stays-then-room.ensures) (sends _ (parts _ h) _ _ _ _ (resend-done l m c.args.k _ _ a e _ _ v) _ 0 b refl (data-room (data_table c.args.n.datas c.args.datas.now) _ (sym c.room.ensures ∙ c.if-room.true)) (c.put_data-count.ensures c.requires.2 legal))
+    stays-as _ _ _ _ _ b _ (stayed-as _ _ _ _ _ _ c.with_datas.ensures c.stays-then-room.ensures) (sends _ (parts _ h) _ _ _ _ (resend-done l m c.args.k _ _ a e _ _ v) _ 0 b refl (data-room (data_table c.args.n.datas c.args.datas.now) _ (sym c.room.ensures ∙ c.if-room.true)) (c.put-count.ensures c.requires.2 sound))
 
 pub returns-else-room : goal.returns-else-room
 unfolding link_state all

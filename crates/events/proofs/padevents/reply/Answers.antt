@@ -14,6 +14,8 @@ use Rattle.events.proofs.Laws.Stays.{lent-refused}
 use Rattle.events.proofs.Laws.Tables.{reply-room}
 use Rattle.events.proofs.Laws.Replying.{nothing-ready, record-full, table-full, all_pass, some-ready, count_fits, replies}
 use borrow.Author.Tests.{ltb-true}
+use Rattle.air.specs.Laws.{reply_laws}
+use Rattle.std.proofs.Common.{rules}
 use Rattle.events.proofs.padevents.reply.Goals as goal
 
 pub run_length-requires : goal.run_length-requires
@@ -36,25 +38,27 @@ record_run-passed-requires c = let b = c in let p = pad_of b.args.n.wanted b.arg
     let m = count_fits b.args.l b.requires.0 p b.requires.1 _ a.value in
     (b.requires.0, (facts b.args.l p b.requires.1).low, omega (arith, a.value, r), m.0, omega (arith, b.if-count-record.true))
 
-pub put_reply-replied-requires : goal.put_reply-replied-requires
-put_reply-replied-requires c = let b = c in let l = b.args.l in let p = pad_of b.args.n.wanted b.args.held.now b.args.padtimers.now b.args.padcells.now in
-    let a = b.in-Ok.ensures b.args.padcells.now in (
-      b.requires.0,
-      ltb-true b.args.n.replies 32 (sym b.room.ensures ∙ b.if-room.true),
-      ap (λ (x : Replying). sound_reply l x.reply) (b.record_run-passed.ensures b.args.padtimers.now b.requires.1 a.value).1
-          ∙ replying-sound l b.requires.0 p b.requires.1 b.args.«record».now (some-ready (pad_state l.window p) a.number),
-    )
+pub put-replied-requires : goal.put-replied-requires
+put-replied-requires c = let b = c in let l = b.args.l in let p = pad_of b.args.n.wanted b.args.held.now b.args.padtimers.now b.args.padcells.now in
+    let a = b.in-Ok.ensures b.args.padcells.now in
+    let sound =
+        ap (λ (x : Replying). sound_reply l x.reply) (b.record_run-passed.ensures b.args.padtimers.now b.requires.1 a.value).1
+        ∙ replying-sound l b.requires.0 p b.requires.1 b.args.«record».now (some-ready (pad_state l.window p) a.number) in
+    (b.requires.0, ltb-true b.args.n.replies 32 (sym b.room.ensures ∙ b.if-room.true), reply_laws.sound_fits l _ b.requires.0 sound, search rules)
 
 pub returns-then-room : goal.returns-then-room
 returns-then-room c = let b = c in let l = b.args.l in let p = pad_of b.args.n.wanted b.args.held.now b.args.padtimers.now b.args.padcells.now in
     let a = b.in-Ok.ensures b.args.padcells.now in
     let v = b.record_run-passed.ensures b.args.padtimers.now b.requires.1 a.value in
+    let sound =
+        ap (λ (x : Replying). sound_reply l x.reply) v.1
+        ∙ replying-sound l b.requires.0 p b.requires.1 b.args.«record».now (some-ready (pad_state l.window p) a.number) in
     λ marks mattimers matcells datas h.
     rw (c.with_wanted.ensures, c.with_replies.ensures, c.recorded_by.ensures)
     (replies _ (parts _ h) b.args.«record».now _
     (all_pass (pad_state l.window p) _ (reply_messages (reply_table b.args.n.replies b.args.replies.now)) (some-ready (pad_state l.window p) a.number) _ a.value (omega (arith, b.if-count-record.true))
     (reply-room (reply_table b.args.n.replies b.args.replies.now) _ (sym b.room.ensures ∙ b.if-room.true)))
-    _ _ _ v.0 v.1 _ (c.put_reply-replied.ensures b.requires.2))
+    _ _ _ v.0 v.1 _ (c.put-replied.ensures b.requires.2 sound))
 
 pub returns-else-room : goal.returns-else-room
 unfolding link_state

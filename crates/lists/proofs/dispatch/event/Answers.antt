@@ -2,7 +2,8 @@ use mathlib.Core.List.{[]}
 use Rattle.events.proofs.Laws.Parts.{parts, mat-numbers, pad-number}
 use Rattle.events.proofs.Laws.Stays.{stayed-at}
 use Rattle.lists.proofs.Laws.Decoding.{is-send, no-send, is-resend, is-arrive_data, is-reply, no-reply, is-arrive_reply, is-lose_data, is-lose_reply, is-tick, no-tick, is-unknown, moves-as, misfit-stays, unknown-stays}
-use Rattle.air.proofs.Laws.Typed.{data-count, reply-count}
+use Rattle.air.specs.Forms.{data_form, reply_form}
+use Rattle.air.proofs.Laws.Forms.{count-few}
 use Rattle.lists.proofs.dispatch.event.Goals as goal
 
 pub send-requires : goal.send-requires
@@ -21,13 +22,13 @@ pub arrive_reply-requires : goal.arrive_reply-requires
 arrive_reply-requires c = let p = parts _ c.requires in let q = mat-numbers _ p in (p.limits, q.0, q.1, q.2, p.replies)
 
 pub lose_data-requires : goal.lose_data-requires
-lose_data-requires c = let p = parts _ c.requires in data-count _ _ p.datas
+lose_data-requires c = let p = parts _ c.requires in count-few data_form _ _ _ p.datas
 
 pub lose_reply-requires : goal.lose_reply-requires
-lose_reply-requires c = let p = parts _ c.requires in reply-count _ _ p.replies
+lose_reply-requires c = let p = parts _ c.requires in count-few reply_form _ _ _ p.replies
 
 pub tick-requires : goal.tick-requires
-tick-requires c = let p = parts _ c.requires in (p.limits, data-count _ _ p.datas, reply-count _ _ p.replies)
+tick-requires c = let p = parts _ c.requires in (p.limits, count-few data_form _ _ _ p.datas, count-few reply_form _ _ _ p.replies)
 
 pub returns-then-argument-eq0 : goal.returns-then-argument-eq0
 returns-then-argument-eq0 c = λ h. moves-as _ _ _ _ _ _ _ (is-send _ _ c.in-1.is c.if-argument-eq0.true) (c.send.ensures c.args.marks.now c.args.held.now c.args.padtimers.now c.args.padcells.now c.args.replies.now c.args.«record».now h)
