@@ -25,14 +25,10 @@ pub fn table_sound<M: Carried>(l: Limits, count: usize, words: &[u16]) -> bool
         return false;
     }
     let mut good = true;
-    let mut at = 0;
-    let mut i = 0;
-    while i < count {
-        good = rows::both(good, M::head_sound(l, words, at));
-        at += M::WIDTH;
-        i += 1;
+    for i in 0..count {
+        good &= M::head_sound(l, words, M::WIDTH * i);
     }
-    rows::both(good, M::cells_sound(words, count))
+    good & M::cells_sound(words, count)
 }
 
 // Whether a message more finds a place.

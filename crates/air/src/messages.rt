@@ -61,12 +61,6 @@ pub trait Carried: Copy {
     ghost width_is: { WIDTH ≡ form.width };
 }
 
-fn wide(x: u16) -> usize
-    ensures { result ≡ x }
-{
-    x as usize
-}
-
 impl Carried for Data {
     ghost form = { data_form };
 
@@ -91,7 +85,7 @@ impl Carried for Data {
     // The number is read only where the life passes, so that the compiler leaves the loop over messages a plain one: vector code
     // that gathers words a width apart is long, and slower.
     fn head_sound(l: Limits, words: &[u16], at: usize) -> bool {
-        limits::within(1, l.datalife, words[at]) && wide(words[at + 1]) < 2 * l.window
+        limits::within(1, l.datalife, words[at]) && usize::from(words[at + 1]) < 2 * l.window
     }
 
     // A life and a number that pass their own test are legal cells too, so that the words are tested in one row.
@@ -100,7 +94,7 @@ impl Carried for Data {
     }
 
     fn read(words: &[u16], at: usize) -> Data {
-        let number = wide(words[at + 1]);
+        let number = usize::from(words[at + 1]);
         let row = rows::read(words, at + 2);
         Data { number, row }
     }
@@ -141,9 +135,10 @@ impl Carried for Reply {
     }
 
     fn head_sound(l: Limits, words: &[u16], at: usize) -> bool {
-        let first = wide(words[at + 1]);
-        let last = wide(words[at + 2]);
-        limits::within(1, l.replylife, words[at]) && rows::messages::reply_sound(l, Reply { first, last })
+        let first = usize::from(words[at + 1]);
+        let last = usize::from(words[at + 2]);
+        limits::within(1, l.replylife, words[at])
+            && rows::messages::reply_sound(l, Reply { first, last })
     }
 
     fn cells_sound(_words: &[u16], _n: usize) -> bool {
@@ -151,8 +146,8 @@ impl Carried for Reply {
     }
 
     fn read(words: &[u16], at: usize) -> Reply {
-        let first = wide(words[at + 1]);
-        let last = wide(words[at + 2]);
+        let first = usize::from(words[at + 1]);
+        let last = usize::from(words[at + 2]);
         Reply { first, last }
     }
 

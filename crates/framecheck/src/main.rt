@@ -22,13 +22,20 @@ fn data(rt: &impl Print, f: &DataFrame) -> io::Result<()> {
 }
 
 fn reply(rt: &impl Print, f: &ReplyFrame) -> io::Result<()> {
-    print!(rt; "2 {} {} {} {} ", f.life, f.window, f.reply.first, f.reply.last)
+    print!(rt;
+        "2 {} {} {} {} ",
+        f.life, f.window, f.reply.first, f.reply.last
+    )
 }
 
 // What the writer makes of a frame.
 fn written(rt: &impl Print, frame: &Frame, buffer: &mut [u8]) -> io::Result<()> {
     let written = frames::write(frame, buffer);
-    print!(rt; "{} {} ", limits::answer::number(&written), written.unwrap_or(0))?;
+    print!(rt;
+        "{} {} ",
+        limits::answer::number(&written),
+        written.unwrap_or(0)
+    )?;
     numbers(rt, buffer)
 }
 

@@ -68,6 +68,7 @@ fn least_wait(l: Limits) -> u16
     sum_of_times(l) + 1
 }
 
+// Stays (no plainer): what a wait of 0 stands for and the least that question 3 takes are two rules, alike today.
 fn default_wait(l: Limits) -> u16
     requires { times_fit l ≡ true }
     ensures { result ≡ default_wait l }

@@ -2,7 +2,7 @@
 // it needs alone.
 #![tactic(auto)]
 
-ghost use Rattle.std.specs.Prelude.{◌≡◌, ◌+◌, ◌-◌, ◌≤◌, ◌<◌, ◌%◌, length, take, drop, get_or, set, false, not, ◌&&◌, leb};
+ghost use Rattle.std.specs.Prelude.{◌≡◌, ◌+◌, ◌-◌, ◌≤◌, ◌<◌, ◌%◌, length, take, drop, get_or, false, not, leb};
 ghost use Rattle.limits.specs.Lists.{tab, all};
 ghost use Rattle.limits.specs.Cells.{row_at, legal_cell, legal_row};
 ghost use Rattle.rows.specs.Arrays.{pasted, written, fallen, closed, span_set};
@@ -38,13 +38,6 @@ pub fn load(cells: &[u16; 512], place: usize) -> [u16; 16]
     ensures { result ≡ row_at cells.now place }
 {
     read(cells, 16 * place)
-}
-
-// Both, with no branch.
-pub fn both(a: bool, b: bool) -> bool
-    ensures { result ≡ (a && b) }
-{
-    a & b
 }
 
 // Whether the cells from `from` to before `to` are legal. This and the two tests below look at every entry and leave at the end
@@ -90,13 +83,6 @@ pub fn none_set(marks: &[bool], from: usize, to: usize) -> bool
     good
 }
 
-// How far x lies beyond w.
-pub fn beyond(w: usize, x: usize) -> usize
-    ensures { result ≡ x - w }
-{
-    x.saturating_sub(w)
-}
-
 // The first `n` entries fall by `d` and stop at 0.
 pub fn fall(xs: &mut [u16; 32], n: usize, d: u16)
     requires { n ≤ 32 }
@@ -113,14 +99,6 @@ pub fn close(xs: &mut [u16], at: usize, width: usize, end: usize)
     ensures { xs.new ≡ closed at width end xs.old }
 {
     xs.copy_within(at + width..end, at);
-}
-
-// Writes x at place `at`.
-pub fn set(xs: &mut [u16], at: usize, x: u16)
-    requires { at < length xs.old }
-    ensures { xs.new ≡ set xs.old at x }
-{
-    xs[at] = x;
 }
 
 // The place behind `at`, round the ring.

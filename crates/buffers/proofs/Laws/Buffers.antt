@@ -4,8 +4,8 @@ use mathlib.Core.Path.{◌≡◌, refl, sym, ◌∙◌, ap, ap₂}
 use mathlib.Core.List.{List, [], ◌∷◌, ◌++◌, append_assoc, append-nil}
 use native.Mathlib.Nat.{suc-add}
 use native.Mathlib.Omega.{arith}
-use lib.ListN.{length, take, drop, get_or, set, length-append, drop_of_length-le, take-append-drop}
-use lib.Seq.{drop-nil, take_at, take_all, drop-drop, drop-append-add, paste, paste-suc, sets, sets-eq}
+use lib.ListN.{length, take, drop, set, length-append, drop_of_length-le, take-append-drop}
+use lib.Seq.{drop-nil, take_at, take_all, drop-drop, drop-append-add, sets, sets-eq}
 use Rattle.limits.specs.Lists.{tab}
 use Rattle.limits.proofs.Laws.Lists.{length-tab, tab-more}
 use Rattle.buffers.specs.Buffers.{wrote, Wrote}
@@ -45,23 +45,6 @@ unfolding wrote
 none-wrote at xs =
     record {
       buffer = sym (ap (λ k. take at xs ++ drop k xs) {x = at + 0} {y = at} (omega arith) ∙ take-append-drop at xs);
-      behind = omega arith;
-    }
-
--- a loop that copies: a turn, and its end
-pub word-turn : (b : List ℕ) (at : ℕ) (s ys : List ℕ) (i : ℕ) → ys ≡ paste b at s i → at + length s ≤ length b → i < length s
-    → set ys (at + i) (get_or s i 0) ≡ paste b at s (i + 1)
-word-turn b at s ys i e h k =
-    ap (λ l. set l (at + i) (get_or s i 0)) e ∙ paste-suc b at s i 0 (omega arith) k ∙ ap (paste b at s) {x = suc i} {y = i + 1} (omega arith)
-
-pub word-done : (b : List ℕ) (at : ℕ) (s ys : List ℕ) (i : ℕ) → ys ≡ paste b at s i → i ≡ length s → Wrote at s b ys (at + i)
-unfolding wrote
-word-done b at s ys i e q =
-    record {
-      buffer =
-          e
-          ∙ append_assoc (take at b) (take i s) (drop (at + i) b)
-          ∙ ap₂ (λ text n. take at b ++ (text ++ drop (at + n) b)) (take_all i s (omega arith)) q;
       behind = omega arith;
     }
 
@@ -106,9 +89,6 @@ same-wrote at a b xs ys p e w = rw e at w
 pub record Left (at : ℕ) (text before : List ℕ) (next : ℕ) (rest present : List ℕ) : Type 0 where
   pub buffer : wrote next rest present ≡ wrote at text before
   pub behind : next + length rest ≡ at + length text
-
-pub left-start : (at : ℕ) (text xs : List ℕ) → Left at text xs at text xs
-left-start at text xs = record { buffer = refl; behind = refl }
 
 pub left-turn : (at : ℕ) (text xs : List ℕ) (p : ℕ) (a b rest ys zs : List ℕ) (q : ℕ) → Left at text xs p rest ys → rest ≡ a ++ b → Wrote p a ys zs q
     → Left at text xs q b zs

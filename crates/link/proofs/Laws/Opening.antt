@@ -17,9 +17,3 @@ use Rattle.link.specs.View.{fresh_link}
 pub link-fresh : (l : Limits) (m : Mat) (p : Pad) (d : DataTable) (r : ReplyTable) → m ≡ fresh_mat → p ≡ fresh_pad → d ≡ empty_data → r ≡ empty_replies
     → record { limits = l; mat = m; pad = p; datas = d; replies = r } ≡ fresh_link l
 link-fresh l m p d r a b e f = λ i. record { limits = l; mat = a i; pad = b i; datas = e i; replies = f i }
-
--- an answer that is shown through a function
-pub answers-under : {X Y : Type 0} (f : X → Y) (qs : List Question) (answer : Answer) (shown done refused : X) (shown' : Y)
-    → shown' ≡ f shown → Answers qs answer shown done refused → Answers qs answer shown' (f done) (f refused)
-answers-under f qs answer shown done refused shown' e a =
-    record { number = a.number; result = e ∙ ap f a.result ∙ pick_under f (eqb (first_no qs) 0) done refused }

@@ -74,11 +74,6 @@ module _ {A : Type 0} (d : A) (new : ℕ → A) (xs : List A) where
       (λ k. above a (b + 1) i (let n : i ≡ b → ⊥ = ne in omega arith) ∙ sym (above a b i k))
       (λ k. ap (leb a i &&◌) (lt-ltb i (b + 1) (omega arith) ∙ sym (lt-ltb i b k))))
 
-  -- a turn of a loop that stores at b
-  pub range-turn : (a b : ℕ) (ys : List A) (v : A) → ys ≡ changed d (from_to a b) new xs → a ≤ b → v ≡ new b
-      → set ys b v ≡ changed d (from_to a (b + 1)) new xs
-  range-turn a b ys v e h q = rw (e, q) (range-more a b h)
-
   -- by index
   pub is-range : (a b : ℕ) (ys : List A) → length ys ≡ length xs → ((i : ℕ) → a ≤ i → i < b → get_or ys i d ≡ new i)
       → ((i : ℕ) → i < a → get_or ys i d ≡ get_or xs i d) → ((i : ℕ) → b ≤ i → get_or ys i d ≡ get_or xs i d) → ys ≡ changed d (from_to a b) new xs
@@ -117,9 +112,6 @@ module _ {A : Type 0} (d : A) (new : ℕ → A) (xs : List A) where
       (λ i s t. get_or-append ys (drop b xs) d i (omega arith) ∙ e i t)
       (λ i s. absurd (omega arith))
       (λ i s. get_or-append_right ys (drop b xs) i d (omega arith) ∙ get_or-drop b xs (i - length ys) d ∙ ap (λ j. get_or xs j d) (omega arith))
-
-  pub range-start : (a a' : ℕ) → a' ≡ a → xs ≡ changed d (from_to a a') new xs
-  range-start a a' q = rw q (sym (range_none a))
 
 -- an array into which words were copied, by index
 module _ (at : ℕ) (words xs : List ℕ) where

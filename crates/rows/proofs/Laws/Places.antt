@@ -103,10 +103,6 @@ module _ (w o d k : ℕ) (h : d < w) (j : k < w) where
 pub first-place : (w from : ℕ) → from < w → from ≡ (from + 0) % w
 first-place w from h = sym (ap (◌% w) {x = from + 0} {y = from} (omega arith) ∙ mod-eq_of_lt h)
 
--- a span of one number is its place
-pub span-one : (w at : ℕ) (value : Bool) (xs : List Bool) → at < w → span_set w at 1 value xs ≡ set xs at value
-span-one w at value xs h = sym (span-turn-at w at 0 at value xs xs h (omega arith) (first-place w at h) (span-start w at value xs))
-
 -- `count` places round the ring are two spans: to the ring's end, and from place 0 on the `over` places beyond it
 module _ {A : Type 0} (w from count over : ℕ) (h : from < w) (k : count ≤ w) (e : over ≡ from + count - w) (f : ℕ → A) where
   pub round-tab : tab count (λ i. f ((from + i) % w)) ≡ tab (count - over) (λ i. f (from + i)) ++ tab over f

@@ -1,13 +1,8 @@
 use mathlib.Core.Path.{◌≡◌}
-use Prim.Native.Nat.{◌*◌, ◌-◌, ◌≤◌}
+use Prim.Native.Nat.{◌≤◌}
 use Rattle.limits.specs.Lists.{tab, all}
 use Rattle.tables.specs.Words.{message_at}
 use Rattle.air.proofs.lent.table_sound.Given as goal
 
 abbrev pub invariant-loop-i : goal.invariant-loop-i
-invariant-loop-i g l =
-    (l.i ≤ l.count) × (l.count ≤ 32) × (l.at ≡ g.M.Carried.form.width * l.i)
-    × (l.good ≡ all (g.M.Carried.form.head l.l) (tab l.i (message_at g.M.Carried.form.width l.words)))
-
-abbrev pub decreases-loop-i : goal.decreases-loop-i
-decreases-loop-i g l = l.count - l.i
+invariant-loop-i g l = (l.count ≤ 32) × (l.good ≡ all (g.M.Carried.form.head l.l) (tab l.i (message_at g.M.Carried.form.width l.words)))

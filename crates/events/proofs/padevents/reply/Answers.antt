@@ -42,8 +42,8 @@ pub put-replied-requires : goal.put-replied-requires
 put-replied-requires c = let b = c in let l = b.args.l in let p = pad_of b.args.n.wanted b.args.held.now b.args.padtimers.now b.args.padcells.now in
     let a = b.in-Ok.ensures b.args.padcells.now in
     let sound =
-        ap (λ (x : Replying). sound_reply l x.reply) (b.record_run-passed.ensures b.args.padtimers.now b.requires.1 a.value).1
-        ∙ replying-sound l b.requires.0 p b.requires.1 b.args.«record».now (some-ready (pad_state l.window p) a.number) in
+    ap (λ (x : Replying). sound_reply l x.reply) (b.record_run-passed.ensures b.args.padtimers.now b.requires.1 a.value).1
+    ∙ replying-sound l b.requires.0 p b.requires.1 b.args.«record».now (some-ready (pad_state l.window p) a.number) in
     (b.requires.0, ltb-true b.args.n.replies 32 (sym b.room.ensures ∙ b.if-room.true), reply_laws.sound_fits l _ b.requires.0 sound, search rules)
 
 pub returns-then-room : goal.returns-then-room
@@ -51,8 +51,8 @@ returns-then-room c = let b = c in let l = b.args.l in let p = pad_of b.args.n.w
     let a = b.in-Ok.ensures b.args.padcells.now in
     let v = b.record_run-passed.ensures b.args.padtimers.now b.requires.1 a.value in
     let sound =
-        ap (λ (x : Replying). sound_reply l x.reply) v.1
-        ∙ replying-sound l b.requires.0 p b.requires.1 b.args.«record».now (some-ready (pad_state l.window p) a.number) in
+    ap (λ (x : Replying). sound_reply l x.reply) v.1
+    ∙ replying-sound l b.requires.0 p b.requires.1 b.args.«record».now (some-ready (pad_state l.window p) a.number) in
     λ marks mattimers matcells datas h.
     rw (c.with_wanted.ensures, c.with_replies.ensures, c.recorded_by.ensures)
     (replies _ (parts _ h) b.args.«record».now _

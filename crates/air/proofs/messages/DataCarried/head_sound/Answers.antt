@@ -13,7 +13,7 @@ overflow_mul-result c = let g = good _ c.requires.0 in omega arith
 pub returns-then-within : goal.returns-then-within
 returns-then-within c =
     and-goes-on _ _ (sym c.within.ensures ∙ c.if-within.true)
-    ∙ data-headed c.args.words.now c.args.at c.args.l c.wide.result c.requires.1 c.wide.ensures
+    ∙ data-headed c.args.words.now c.args.at c.args.l c.from.result c.requires.1 c.from.ensures
 
 pub returns-else-within : goal.returns-else-within
 returns-else-within c =
