@@ -8,37 +8,24 @@ fn read(rt: &impl Print, what: &[u8], bytes: &[u8]) -> io::Result<()> {
     line(rt, what, frames::read(bytes))
 }
 
-fn write_data(
-    rt: &impl Print,
-    what: &[u8],
-    life: u16,
-    window: usize,
-    number: usize,
-    cell: u16,
-    buffer: &mut [u8],
-) -> io::Result<()> {
+fn data(life: u16, window: usize, number: usize, cell: u16) -> Frame {
     let row = [cell; 16];
-    let frame = Frame::Data(DataFrame {
+    Frame::Data(DataFrame {
         life,
         window,
         data: Data { number, row },
-    });
-    line(rt, what, frames::write(&frame, buffer))
+    })
 }
 
-fn write_reply(
-    rt: &impl Print,
-    what: &[u8],
-    window: usize,
-    first: usize,
-    last: usize,
-    buffer: &mut [u8],
-) -> io::Result<()> {
-    let frame = Frame::Reply(ReplyFrame {
+fn reply(window: usize, first: usize, last: usize) -> Frame {
+    Frame::Reply(ReplyFrame {
         life: 1,
         window,
         reply: Reply { first, last },
-    });
+    })
+}
+
+fn write(rt: &impl Print, what: &[u8], frame: Frame, buffer: &mut [u8]) -> io::Result<()> {
     line(rt, what, frames::write(&frame, buffer))
 }
 
@@ -56,23 +43,25 @@ fn read_tries(rt: &impl Print) -> io::Result<()> {
 fn write_tries(rt: &impl Print) -> io::Result<()> {
     let mut space = [0u8; 36];
     let mut short = [0u8; 4];
-    write_data(rt, b"write data", 250, 32, 63, 4095, &mut space)?;
-    write_data(
+    write(rt, b"write data", data(250, 32, 63, 4095), &mut space)?;
+    write(
         rt,
         b"write data, w largest",
-        1,
-        18446744073709551615,
-        0,
-        5,
+        data(1, usize::MAX, 0, 5),
         &mut space,
     )?;
-    write_data(rt, b"write data, number 2w", 1, 2, 4, 5, &mut space)?;
-    write_data(rt, b"write data, life 0", 0, 2, 0, 5, &mut space)?;
-    write_data(rt, b"write data, cell 4096", 1, 2, 0, 4096, &mut space)?;
-    write_data(rt, b"write data, buffer of 4", 1, 2, 0, 5, &mut short)?;
-    write_reply(rt, b"write reply", 2, 3, 0, &mut space)?;
-    write_reply(rt, b"write reply, span 3 of 2", 2, 0, 2, &mut space)?;
-    write_reply(rt, b"write reply, buffer of 4", 2, 0, 0, &mut short)
+    write(rt, b"write data, number 2w", data(1, 2, 4, 5), &mut space)?;
+    write(rt, b"write data, life 0", data(0, 2, 0, 5), &mut space)?;
+    write(
+        rt,
+        b"write data, cell 4096",
+        data(1, 2, 0, 4096),
+        &mut space,
+    )?;
+    write(rt, b"write data, buffer of 4", data(1, 2, 0, 5), &mut short)?;
+    write(rt, b"write reply", reply(2, 3, 0), &mut space)?;
+    write(rt, b"write reply, span 3 of 2", reply(2, 0, 2), &mut space)?;
+    write(rt, b"write reply, buffer of 4", reply(2, 0, 0), &mut short)
 }
 
 pub fn tries(rt: &impl Print) -> io::Result<()> {
