@@ -175,7 +175,7 @@ uint8_t matlink_lent_write_frame(const uint16_t *head, const uint16_t *cells, ui
  * Done: `count` gets the count of bytes written, 23 for each row, and the bytes behind them are as they were.
  * Refused: the buffer is as it was, and `count` gets 0, whichever question it was.
  * What a call takes goes with the rows of the page, however long the record is.
- * Stack: 56 bytes. */
+ * Stack: 62 bytes. */
 uint8_t matlink_page(const uint16_t *record, size_t record_count, uint64_t page, uint8_t *buffer, size_t buffer_count,
                      uint64_t *count);
 
@@ -219,7 +219,7 @@ static inline void matlink_counted(struct matlink_counts *counts, const size_t *
  * Done: every number of the link is written. It has these limits, with the sum of the three times plus 1 for a resend wait of
  * 0, and all other numbers are 0.
  * Refused: every number of the link is 0, and matlink_step and matlink_run answer 4 to such a link.
- * Stack: 192 bytes, the proved function 80. */
+ * Stack: 208 bytes, the proved function 96. */
 static inline uint8_t matlink_open(struct matlink *link, uint32_t window, uint32_t data_life, uint32_t reply_life,
                                    uint32_t reply_wait, uint32_t resend_wait) {
     uint16_t head[10] = {0};
@@ -249,7 +249,7 @@ static inline uint8_t matlink_open(struct matlink *link, uint32_t window, uint32
  * to the front of the record, and the cells behind them are as they were; other events write nothing there. The counts say what
  * rose. The next call gets the supply from behind the rows sent, and the record from behind the rows recorded.
  * Refused: link and record are as they were, and the counts are 0, whichever question it was.
- * Stack: 872 bytes, the proved function 696. */
+ * Stack: 920 bytes, the proved function 744. */
 static inline uint8_t matlink_step(struct matlink *link, uint32_t kind, uint32_t argument, const uint16_t *supply,
                                    size_t supply_count, uint16_t *record, size_t record_count,
                                    struct matlink_counts *counts) {
@@ -274,7 +274,7 @@ static inline uint8_t matlink_step(struct matlink *link, uint32_t kind, uint32_t
  * events' answers, one each, and the rows recorded stand at the front of the record; the rest of both is as it was. The counts
  * say what rose in all.
  * Refused: link, record and answers are as they were, and the counts are 0, whichever question it was.
- * Stack: 1336 bytes, the proved function 1144. */
+ * Stack: 936 bytes, the proved function 744. */
 static inline uint8_t matlink_run(struct matlink *link, const uint8_t *events, size_t events_count, const uint16_t *supply,
                                   size_t supply_count, uint16_t *record, size_t record_count, uint8_t *answers,
                                   size_t answers_count, struct matlink_counts *counts) {
@@ -294,7 +294,7 @@ static inline uint8_t matlink_run(struct matlink *link, const uint8_t *events, s
  * Asked in this order: 1, 2, 3 as by matlink_open, then 5, 6, 7 and the events as by matlink_run.
  * Done: record, answers and counts as by matlink_run.
  * Refused: record and answers are as they were, and the counts are 0, whichever question it was.
- * Stack: 4760 bytes, the proved function 4648. The link is kept there. */
+ * Stack: 4392 bytes, the proved function 4280. The link is kept there. */
 static inline uint8_t matlink_ride(uint32_t window, uint32_t data_life, uint32_t reply_life, uint32_t reply_wait,
                                    uint32_t resend_wait, const uint8_t *events, size_t events_count, const uint16_t *supply,
                                    size_t supply_count, uint16_t *record, size_t record_count, uint8_t *answers,
@@ -311,7 +311,7 @@ static inline uint8_t matlink_ride(uint32_t window, uint32_t data_life, uint32_t
  * a data frame the cells (12), and of a reply frame the rows that it covers (27).
  * Done: every number of `out` is written, with 0 for what the kind does not have.
  * Refused: `out` is as it was.
- * Stack: 48 bytes, the proved function 16. */
+ * Stack: 224 bytes, the proved function 192. */
 static inline uint8_t matlink_read_frame(const uint8_t *frame, size_t frame_count, struct matlink_frame *out) {
     uint16_t head[5] = {0};
     uint8_t answer = matlink_lent_read_frame(frame, frame_count, head, out->cell);
@@ -332,7 +332,7 @@ static inline uint8_t matlink_read_frame(const uint8_t *frame, size_t frame_coun
  * Done: `count` gets the count of bytes written, 36 of a data frame and 5 of a reply frame, and the bytes behind them are as
  * they were.
  * Refused: the buffer is as it was, and `count` gets 0, whichever question it was.
- * Stack: 64 bytes, the proved function 16. */
+ * Stack: 208 bytes, the proved function 160. */
 static inline uint8_t matlink_write_frame(const struct matlink_frame *frame, uint8_t *buffer, size_t buffer_count,
                                           uint64_t *count) {
     uint16_t head[5];
