@@ -15,6 +15,7 @@ use Rattle.limits.proofs.Laws.Lists.{length-tab}
 use Rattle.limits.proofs.Laws.Questions.{passed_first, front-passed}
 use Rattle.frames.specs.declared.DataFrame.{DataFrame}
 use Rattle.frames.specs.declared.Frame.{Frame}
+use Rattle.frames.specs.declared.ReplyFrame.{ReplyFrame}
 use Rattle.frames.specs.declared.Frame.TheVariants.{Data, Reply}
 use Rattle.frames.specs.Layout.{byte, cell_at, cell_bytes, data_bytes, bytes_of, size_of, frame_into, data_of, reply_of, is_data, is_reply, reading}
 use Rattle.frames.specs.Rules.{value_questions, read_questions, write_questions}
@@ -79,6 +80,10 @@ one-frame xs ys sx sy ex ey same = sym (write-read xs sx ex).gives ∙ ap bytes_
 
 pub one-value : (f g : Frame) → HasRow f → HasRow g → bytes_of f ≡ bytes_of g → f ≡ g
 one-value f g l n e = sym (kind-of-bytes f l).means ∙ ap reading e ∙ (kind-of-bytes g n).means
+
+-- no bytes are those of a data frame and those of a reply frame
+pub not-data-and-reply : (f : DataFrame) (g : ReplyFrame) → bytes_of (Data f) ≡ bytes_of (Reply g) → ⊥
+not-data-and-reply f g e = let p = ap (λ s. byte s 0) e in omega arith
 
 -- The values that write accepts are exactly those that read can give.
 small-bytes : (f : Frame) → HasRow f → first_no (value_questions f) ≡ 0 → Bytes (bytes_of f)
