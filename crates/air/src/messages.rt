@@ -1,5 +1,6 @@
 // What a message in the air carries, and its words: the life first, then a number and sixteen cells, or a first and a last number.
 ghost use Rattle.std.specs.Prelude.{◌≡◌, true, ℕ, ◌+◌, ◌*◌, ◌^◌, ◌<◌, ◌≤◌, length, get_or, take, refl};
+ghost use Rattle.std.proofs.Common.{lit≤};
 ghost use Rattle.limits.specs.declared.Limits.{Limits};
 ghost use Rattle.limits.specs.Answer.{refusal_number};
 ghost use Rattle.limits.specs.Limits.{sound_limits};
@@ -59,6 +60,19 @@ pub trait Carried: Copy {
     ghost laws: { FormLaws form fits };
 
     ghost width_is: { WIDTH ≡ form.width };
+}
+
+// N words are room for a table's 32 messages.
+pub trait Roomy<const N: usize>: Carried {
+    ghost room: { Self.form.width * 32 ≤ N };
+}
+
+impl Roomy<576> for Data {
+    ghost room = { lit≤ tt };
+}
+
+impl Roomy<96> for Reply {
+    ghost room = { lit≤ tt };
 }
 
 impl Carried for Data {

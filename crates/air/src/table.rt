@@ -7,14 +7,14 @@ ghost use Rattle.air.specs.Rules.{room_questions, place_questions};
 ghost use Rattle.air.specs.Forms.{sound_of};
 ghost use Rattle.air.specs.Tables.{table_of, table_messages, sound_in, TableCall, TableReading};
 
-use crate::messages::Carried;
+use crate::messages::Roomy;
 use crate::{changes, lent};
 use limits::Limits;
 use limits::answer::Refusal;
 use limits::messages::{Data, Message, Reply};
 use std::marker::PhantomData;
 
-// The words of N / 32 to a message: message p stands at p times that, its life first.
+// Message p stands at p times the words of a message, its life first.
 #[derive(Clone, Copy)]
 pub struct Table<M, const N: usize> {
     pub count: usize,
@@ -26,7 +26,7 @@ pub type DataTable = Table<Data, 576>;
 
 pub type ReplyTable = Table<Reply, 96>;
 
-impl<M: Carried, const N: usize> Table<M, N> {
+impl<M: Roomy<N>, const N: usize> Table<M, N> {
     // The table hands out and takes back its insides itself.
     pub fn count_of(&self) -> usize
         ensures { result ≡ self.now.count }
@@ -58,7 +58,6 @@ impl<M: Carried, const N: usize> Table<M, N> {
 
     // Question 4 of limits and a table.
     pub fn is_sound(&self, l: Limits) -> bool
-        requires { M.form.width * 32 ≤ N }
         ensures { result ≡ (sound_limits l && sound_in M.form l self.now) }
     {
         limits::sound_limits(l) && lent::table_sound::<M>(l, self.count, &self.words)
@@ -66,7 +65,6 @@ impl<M: Carried, const N: usize> Table<M, N> {
 
     // Question 4 of limits, a table and a message.
     fn is_sound_with(&self, l: Limits, message: Message<M>) -> bool
-        requires { M.form.width * 32 ≤ N }
         ensures { result ≡ (sound_limits l && (sound_in M.form l self.now && sound_of M.form l message)) }
     {
         self.is_sound(l) && lent::message_sound(l, message)
@@ -74,7 +72,6 @@ impl<M: Carried, const N: usize> Table<M, N> {
 
     // A message is put at the table's end: 4, then 13 or 18.
     pub fn put(&mut self, l: Limits, message: Message<M>) -> Result<(), Refusal>
-        requires { M.form.width * 32 ≤ N }
         ensures { TableCall M.form l
             (ask 4 (sound_limits l && (sound_in M.form l self.old && sound_of M.form l message)) ∷ room_questions M.form.full (table_messages M.form self.old))
             (put message (table_messages M.form self.old)) result self.old self.new }
@@ -94,7 +91,6 @@ impl<M: Carried, const N: usize> Table<M, N> {
 
     // Message p: 4, 17.
     pub fn read(&self, l: Limits, p: usize) -> Result<Message<M>, Refusal>
-        requires { M.form.width * 32 ≤ N }
         ensures { TableReading M.form self.now p
             (ask 4 (sound_limits l && sound_in M.form l self.now) ∷ place_questions p (table_messages M.form self.now)) result }
     {
@@ -109,7 +105,6 @@ impl<M: Carried, const N: usize> Table<M, N> {
 
     // Message p leaves, and the gap is closed. It is asked for as it is to be read: 4, 17.
     pub fn remove(&mut self, l: Limits, p: usize) -> Result<(), Refusal>
-        requires { M.form.width * 32 ≤ N }
         ensures { TableCall M.form l
             (ask 4 (sound_limits l && sound_in M.form l self.old) ∷ place_questions p (table_messages M.form self.old))
             (remove p (table_messages M.form self.old)) result self.old self.new }
@@ -121,7 +116,6 @@ impl<M: Carried, const N: usize> Table<M, N> {
 
     // Lives fall by d, and messages with no life left go: 4, 9.
     pub fn tick(&mut self, l: Limits, d: u16) -> Result<(), Refusal>
-        requires { M.form.width * 32 ≤ N }
         ensures { TableCall M.form l
             (ask 4 (sound_limits l && sound_in M.form l self.old) ∷ time_questions d)
             (age d (table_messages M.form self.old)) result self.old self.new }

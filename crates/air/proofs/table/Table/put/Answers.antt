@@ -37,7 +37,7 @@ write-requires g c =
     let asked = three (sound_limits c.args.l) (sound_in form c.args.l t) (sound_of form c.args.l c.args.message) s in (
       g.met.M.Carried.laws.sound_fits c.args.l c.args.message.body (and_left (sound_limits c.args.l) _ s) (and_right _ (form.sound c.args.l c.args.message.body) asked.2),
       (let h : length t.words ≡ g.row.N = search rules in
-          word_fits form.width t.count (length t.words) (ltb-true t.count 32 (sym c.room.ensures ∙ c.if-not-room.false)) (rw h c.requires)),
+          word_fits form.width t.count (length t.words) (ltb-true t.count 32 (sym c.room.ensures ∙ c.if-not-room.false)) (rw h g.met.M.Roomy.room)),
     )
 
 pub returns : goal.returns

@@ -34,7 +34,7 @@ message_at-requires g c =
     let form = g.M.Carried.form in
     let few = count-few form t.count t.words c.args.l (and_right (sound_limits c.args.l) _ (sym c.is_sound.ensures ∙ c.if-not-is_sound.false)) in
     let k : length t.words ≡ g.row.N = search rules in
-    rw k (message_fits form.width t.count c.args.p g.row.N c.if-self-p.false few c.requires)
+    rw k (message_fits form.width t.count c.args.p g.row.N c.if-self-p.false few g.met.M.Roomy.room)
 
 pub returns : goal.returns
 returns g c =
