@@ -1,4 +1,5 @@
--- The two forms keep their laws. What stands in the words of data and of a reply, read and written, and question 4 of them.
+-- The two forms keep their laws. What stands in the words of data and of a reply, read and written, and question 4 of them. Nothing here
+-- is to be believed: these are proofs, which stand in specs since an impl gives them and may name nothing of its own crate's proofs.
 use Prim.Native.Nat.{ℕ, suc, ◌+◌, ◌-◌, ◌*◌, ◌^◌, ◌≤◌, ◌<◌}
 use mathlib.Core.Path.{◌≡◌, refl, sym, ◌∙◌, ap, ap₂}
 use mathlib.Core.Bool.{Bool, true, false, ◌&&◌, and-true}
