@@ -1,5 +1,5 @@
 pub mod Parts
-pub mod Stays
+pub mod Ends
 pub mod Messages
 pub mod Tables
 pub mod Sending

@@ -1,94 +1,63 @@
--- The link as numbers and arrays. The inner events take it so: the arrays are lent to them and change in place.
-use Rattle.std.specs.Prelude.{ℕ, ◌≡◌, Bool, true, List}
+-- A link whose arrays are lent, and events as the enum of them.
+use Rattle.std.specs.Prelude.{ℕ, ◌≡◌, Bool, List, Result, Ok, Err}
 use Rattle.limits.specs.declared.Limits.{Limits}
-use Rattle.limits.specs.Questions.{Called}
-use Rattle.limits.specs.Tables.{Reply}
-use Rattle.limits.specs.Events.{Event}
+use Rattle.limits.specs.declared.answer.Refusal.{Refusal}
+use Rattle.limits.specs.Answer.{refusal_number}
+use Rattle.limits.specs.Tables as tables
+use Rattle.limits.specs.Events as paper
 use Rattle.mat.specs.View.{mat_of}
 use Rattle.pad.specs.View.{pad_of}
 use Rattle.air.specs.Rules.{room_questions}
 use Rattle.air.specs.Data.{data_table}
 use Rattle.air.specs.Replies.{reply_table, reply_messages}
 use Rattle.events.specs.declared.Link.{Link}
-use Rattle.events.specs.declared.Progress.{Progress}
-use Rattle.events.specs.declared.moves.Numbers.{Numbers}
-use Rattle.events.specs.declared.moves.Step.{Step}
-use Rattle.events.specs.State.{unmoved}
-use Rattle.events.specs.Rules.{old_taken}
-use Rattle.events.specs.View.{link_state, sound_link, shown, Moves}
+use Rattle.events.specs.declared.LentLink.{LentLink}
+use Rattle.events.specs.declared.Numbers.{Numbers}
+use Rattle.events.specs.declared.Counts.{Counts}
+use Rattle.events.specs.declared.event.Event.{Event}
+use Rattle.events.specs.declared.event.Event.TheVariants.{Send, Resend, ArriveData, Reply, ArriveReply, LoseData, LoseReply, Tick}
+use Rattle.events.specs.State.{LinkState, unmoved}
+use Rattle.events.specs.Rules.{old_taken, answer}
+use Rattle.events.specs.View.{link_state, LinkCall}
 
--- the arrays of the mat, of the pad, and the words of the two tables
-pub record Arrays : Type 0 where
-  pub marks : List Bool
-  pub mattimers : List ℕ
-  pub matcells : List ℕ
-  pub held : List Bool
-  pub padtimers : List ℕ
-  pub padcells : List ℕ
-  pub datas : List ℕ
-  pub replies : List ℕ
-
-abbrev pub arrays : List Bool → List ℕ → List ℕ → List Bool → List ℕ → List ℕ → List ℕ → List ℕ → Arrays
-arrays marks mattimers matcells held padtimers padcells datas replies =
+-- the link that is lent
+abbrev pub lent_link : LentLink → Link
+lent_link k =
     record {
-      marks = marks;
-      mattimers = mattimers;
-      matcells = matcells;
-      held = held;
-      padtimers = padtimers;
-      padcells = padcells;
-      datas = datas;
-      replies = replies;
+      limits = k.limits;
+      mat = mat_of k.numbers.oldest k.numbers.next k.marks.now k.mattimers.now k.matcells.now;
+      pad = pad_of k.numbers.wanted k.held.now k.padtimers.now k.padcells.now;
+      datas = data_table k.numbers.datas k.datas.now;
+      replies = reply_table k.numbers.replies k.replies.now;
     }
 
-abbrev pub numbers_of : Link → Numbers
-numbers_of k =
-    record {
-      oldest = k.mat.oldest;
-      next = k.mat.next;
-      wanted = k.pad.wanted;
-      datas = k.datas.count;
-      replies = k.replies.count;
-    }
+-- What every call leaves: the limits, and the arrays that are lent, so that whoever lent them finds what it wrote.
+abbrev pub StaysLent : LentLink → LentLink → Type 0
+StaysLent a b =
+    (b.limits ≡ a.limits)
+    × (b.marks.ghost_name ≡ a.marks.ghost_name) × (b.mattimers.ghost_name ≡ a.mattimers.ghost_name)
+    × (b.matcells.ghost_name ≡ a.matcells.ghost_name) × (b.held.ghost_name ≡ a.held.ghost_name)
+    × (b.padtimers.ghost_name ≡ a.padtimers.ghost_name) × (b.padcells.ghost_name ≡ a.padcells.ghost_name)
+    × (b.datas.ghost_name ≡ a.datas.ghost_name) × (b.replies.ghost_name ≡ a.replies.ghost_name)
 
--- the numbers with one of them changed
-abbrev pub with_oldest : Numbers → ℕ → Numbers
-with_oldest n x = record { oldest = x; next = n.next; wanted = n.wanted; datas = n.datas; replies = n.replies }
+-- the event of the papers that it is
+abbrev pub event_of : Event → paper.Event
+event_of Send = paper.send
+event_of (Resend k) = paper.resend k
+event_of (ArriveData p) = paper.arrive_data p
+event_of Reply = paper.reply
+event_of (ArriveReply p) = paper.arrive_reply p
+event_of (LoseData p) = paper.lose_data p
+event_of (LoseReply p) = paper.lose_reply p
+event_of (Tick d) = paper.tick d
 
-abbrev pub with_next : Numbers → ℕ → Numbers
-with_next n x = record { oldest = n.oldest; next = x; wanted = n.wanted; datas = n.datas; replies = n.replies }
-
-abbrev pub with_wanted : Numbers → ℕ → Numbers
-with_wanted n x = record { oldest = n.oldest; next = n.next; wanted = x; datas = n.datas; replies = n.replies }
-
-abbrev pub with_datas : Numbers → ℕ → Numbers
-with_datas n x = record { oldest = n.oldest; next = n.next; wanted = n.wanted; datas = x; replies = n.replies }
-
-abbrev pub with_replies : Numbers → ℕ → Numbers
-with_replies n x = record { oldest = n.oldest; next = n.next; wanted = n.wanted; datas = n.datas; replies = x }
-
-abbrev pub link_of : Limits → Numbers → Arrays → Link
-link_of l n a =
-    record {
-      limits = l;
-      mat = mat_of n.oldest n.next a.marks a.mattimers a.matcells;
-      pad = pad_of n.wanted a.held a.padtimers a.padcells;
-      datas = data_table n.datas a.datas;
-      replies = reply_table n.replies a.replies;
-    }
-
--- what an event gives beside the arrays that it leaves
-abbrev pub progress_of : Limits → Arrays → Step → Progress
-progress_of l after r = record { answer = r.answer; link = link_of l r.numbers after; counts = r.counts }
-
--- What an inner event promises of a sound link.
-abbrev pub LentMoves : Limits → Numbers → Arrays → Arrays → List ℕ → List ℕ → List ℕ → Event → Step → Type 0
-LentMoves l n lent after supply before buffer e r = sound_link (link_of l n lent) ≡ true → Moves (link_of l n lent) supply before buffer e (progress_of l after r)
+-- What reading an event's bytes promises. A refusal is what their event answers, of any link: 8 or 9.
+abbrev pub ReadAs : ℕ → ℕ → Result Event Refusal → Type 0
+ReadAs kind argument (Ok e) = event_of e ≡ paper.event kind argument
+ReadAs kind argument (Err refusal) =
+    (supply before : List ℕ) (s : LinkState) → refusal_number refusal ≡ answer supply before s (paper.event kind argument)
 
 -- What the reply to an old row promises: 18, and message p left the data table.
-abbrev pub OldTaken : Limits → Numbers → Arrays → Arrays → List ℕ → ℕ → Reply → Step → Type 0
-OldTaken l n lent after buffer p x r =
-    sound_link (link_of l n lent) ≡ true
-    → Called (room_questions 18 (reply_messages (link_of l n lent).replies)) r.answer (shown (progress_of l after r) buffer)
-    (unmoved (old_taken (link_state (link_of l n lent)) p x) buffer) (unmoved (link_state (link_of l n lent)) buffer) sound_link (link_of l n lent)
-    (progress_of l after r).link
+abbrev pub OldTaken : Link → List ℕ → ℕ → tables.Reply → Link → Result Counts Refusal → Type 0
+OldTaken k buffer p x k' r =
+    LinkCall (room_questions 18 (reply_messages k.replies)) (unmoved (old_taken (link_state k) p x) buffer) k buffer k' buffer r

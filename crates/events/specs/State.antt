@@ -1,5 +1,6 @@
 -- The link as its parts: limits, mat, pad and the messages in the air. And what an event or a run makes of it.
-use Rattle.std.specs.Prelude.{ℕ, ◌+◌, List}
+use Rattle.std.specs.Prelude.{ℕ, ◌+◌, List, Result, Ok, Err}
+use Rattle.limits.specs.declared.answer.Refusal.{Refusal}
 use Rattle.limits.specs.declared.Limits.{Limits}
 use Rattle.limits.specs.Tables.{Message, Data, Reply}
 use Rattle.mat.specs.Window.{MatState}
@@ -31,6 +32,11 @@ acknowledged_by n = record { sent = 0; acknowledged = n; recorded = 0 }
 
 abbrev pub recorded_by : ℕ → Counts
 recorded_by n = record { sent = 0; acknowledged = 0; recorded = n }
+
+-- by how much a call raised the counts: a refused one not at all
+abbrev pub risen : Result Counts Refusal → Counts
+risen (Ok n) = n
+risen (Err refusal) = no_counts
 
 abbrev pub added : Counts → Counts → Counts
 added a b =

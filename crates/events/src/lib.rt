@@ -1,14 +1,13 @@
-// The events of a link: what each asks and does, on the link's numbers and its lent arrays.
+// The events of a link: what each asks and does, on a link whose arrays are lent and change in place.
 #![tactic(auto)]
 
 pub mod airevents;
+pub mod event;
 pub mod matevents;
-pub mod moves;
 pub mod padevents;
 
 use air::table::{DataTable, ReplyTable};
 use limits::Limits;
-use limits::answer::Refusal;
 use mat::Mat;
 use pad::Pad;
 
@@ -22,17 +21,35 @@ pub struct Link {
     pub replies: ReplyTable,
 }
 
+// The mat's two numbers, the pad's one, and how many messages each table has.
+#[derive(Clone, Copy, Default)]
+pub struct Numbers {
+    pub oldest: usize,
+    pub next: usize,
+    pub wanted: usize,
+    pub datas: usize,
+    pub replies: usize,
+}
+
+// A link whose arrays are lent: those of the mat, those of the pad, and the words of the two tables.
+#[derive(Drop)]
+pub struct LentLink<'a> {
+    pub limits: Limits,
+    pub numbers: Numbers,
+    pub marks: &'a mut [bool; 32],
+    pub mattimers: &'a mut [u16; 32],
+    pub matcells: &'a mut [u16; 512],
+    pub held: &'a mut [bool; 32],
+    pub padtimers: &'a mut [u16; 32],
+    pub padcells: &'a mut [u16; 512],
+    pub datas: &'a mut [u16; 576],
+    pub replies: &'a mut [u16; 96],
+}
+
 // By how many rows sent, acknowledged and recorded rose.
-#[derive(Clone, Copy)]
+#[derive(Clone, Copy, Default)]
 pub struct Counts {
     pub sent: usize,
     pub acknowledged: usize,
     pub recorded: usize,
-}
-
-#[derive(Clone, Copy)]
-pub struct Progress {
-    pub answer: Result<(), Refusal>,
-    pub link: Link,
-    pub counts: Counts,
 }

@@ -3,17 +3,39 @@
 
 ghost use Rattle.std.specs.Prelude.{◌≡◌};
 ghost use Rattle.events.specs.View.{sound_link};
-ghost use Rattle.events.specs.Lent.{numbers_of, link_of, arrays};
 ghost use Rattle.runs.specs.View.{Stepped, Ran};
-ghost use Rattle.link.specs.View.{fresh_link, Opened};
+ghost use Rattle.link.specs.View.{fresh_link, renumbered, Opened};
 
 use air::table::{DataTable, ReplyTable};
-use events::moves::Numbers;
-use events::{Link, Progress};
+use events::{Counts, LentLink, Link, Numbers};
 use limits::Limits;
 use limits::answer::Refusal;
 use mat::Mat;
 use pad::Pad;
+
+// A link's parts, its arrays lent where they are.
+macro_rules! lend {
+    ($k:expr) => {
+        LentLink {
+            limits: $k.limits,
+            numbers: Numbers {
+                oldest: $k.mat.oldest,
+                next: $k.mat.next,
+                wanted: $k.pad.wanted,
+                datas: $k.datas.count,
+                replies: $k.replies.count,
+            },
+            marks: &mut $k.mat.marks,
+            mattimers: &mut $k.mat.timers,
+            matcells: &mut $k.mat.cells,
+            held: &mut $k.pad.held,
+            padtimers: &mut $k.pad.timers,
+            padcells: &mut $k.pad.cells,
+            datas: &mut $k.datas.words,
+            replies: &mut $k.replies.words,
+        }
+    };
+}
 
 fn fresh(limits: Limits) -> Link
     ensures { result ≡ fresh_link limits }
@@ -35,171 +57,55 @@ pub fn open(asked: Limits) -> Result<Link, Refusal>
     Ok(fresh(accepted))
 }
 
-// The numbers of a link.
-fn numbers_of(k: Link) -> Numbers
-    ensures { result ≡ numbers_of k }
-{
-    let m = k.mat;
-    let p = k.pad;
-    let d = k.datas;
-    let r = k.replies;
-    Numbers {
-        oldest: m.oldest,
-        next: m.next,
-        wanted: p.wanted,
-        datas: d.count_of(),
-        replies: r.count_of(),
-    }
-}
-
-// The link of its limits, its numbers and its arrays.
-fn joined(
-    l: Limits,
-    n: Numbers,
-    marks: [bool; 32],
-    mattimers: [u16; 32],
-    matcells: [u16; 512],
-    held: [bool; 32],
-    padtimers: [u16; 32],
-    padcells: [u16; 512],
-    datas: [u16; 576],
-    replies: [u16; 96],
-) -> Link
-    ensures { result ≡ link_of l n (arrays marks mattimers matcells held padtimers padcells datas replies) }
-{
-    Link {
-        limits: l,
-        mat: Mat {
-            oldest: n.oldest,
-            next: n.next,
-            marks,
-            timers: mattimers,
-            cells: matcells,
-        },
-        pad: Pad {
-            wanted: n.wanted,
-            held,
-            timers: padtimers,
-            cells: padcells,
-        },
-        datas: DataTable::assembled(n.datas, datas),
-        replies: ReplyTable::assembled(n.replies, replies),
-    }
-}
-
 // Question 4.
 pub fn sound(k: Link) -> bool
     ensures { result ≡ sound_link k }
 {
-    let l = k.limits;
-    let n = numbers_of(k);
-    let m = k.mat;
-    let p = k.pad;
-    let marks = m.marks;
-    let mattimers = m.timers;
-    let matcells = m.cells;
-    let held = p.held;
-    let padtimers = p.timers;
-    let padcells = p.cells;
-    let datas = k.datas.words_of();
-    let replies = k.replies.words_of();
-    runs::lent_sound(
-        l, n, &marks, &mattimers, &matcells, &held, &padtimers, &padcells, &datas, &replies,
-    )
+    let mut k = k;
+    runs::is_sound(&lend!(k))
 }
 
-// The call for one event: 4, 6, then the event's questions. The link is taken apart, so that its arrays can be lent and change
-// in place, and put together again.
-pub fn step(k: Link, kind: u8, argument: u8, supply: &[u16], record: &mut [u16]) -> Progress
-    ensures { Stepped k kind argument supply.now «record».old «record».new result }
+// The numbers that a call left, where a link keeps them.
+fn renumber(k: &mut Link, n: Numbers)
+    ensures { k.new ≡ renumbered k.old n }
 {
-    let l = k.limits;
-    let n = numbers_of(k);
-    let m = k.mat;
-    let p = k.pad;
-    let mut marks = m.marks;
-    let mut mattimers = m.timers;
-    let mut matcells = m.cells;
-    let mut held = p.held;
-    let mut padtimers = p.timers;
-    let mut padcells = p.cells;
-    let mut datas = k.datas.words_of();
-    let mut replies = k.replies.words_of();
-    let s = runs::lent_step(
-        l,
-        n,
-        &mut marks,
-        &mut mattimers,
-        &mut matcells,
-        &mut held,
-        &mut padtimers,
-        &mut padcells,
-        &mut datas,
-        &mut replies,
-        kind,
-        argument,
-        supply,
-        record,
-    );
-    let answer = s.answer;
-    let after = s.numbers;
-    let counts = s.counts;
-    Progress {
-        answer,
-        link: joined(
-            l, after, marks, mattimers, matcells, held, padtimers, padcells, datas, replies,
-        ),
-        counts,
-    }
+    k.mat.oldest = n.oldest;
+    k.mat.next = n.next;
+    k.pad.wanted = n.wanted;
+    k.datas.count = n.datas;
+    k.replies.count = n.replies;
+}
+
+// The call for one event: 4, 6, then the event's questions.
+pub fn step(
+    k: &mut Link,
+    kind: u8,
+    argument: u8,
+    supply: &[u16],
+    record: &mut [u16],
+) -> Result<Counts, Refusal>
+    ensures { Stepped k.old kind argument supply.now «record».old «record».new k.new result }
+{
+    let mut lent = lend!(k);
+    let result = runs::step(&mut lent, kind, argument, supply, record);
+    let numbers = lent.numbers;
+    renumber(k, numbers);
+    result
 }
 
 // The events in order, two bytes each: 4, 5, 6, 7. One answer byte for each event.
 pub fn run(
-    k: Link,
+    k: &mut Link,
     events: &[u8],
     supply: &[u16],
     record: &mut [u16],
     answers: &mut [u8],
-) -> Progress
-    ensures { Ran k events.now supply.now «record».old «record».new
-        answers.old answers.new result }
+) -> Result<Counts, Refusal>
+    ensures { Ran k.old events.now supply.now «record».old «record».new answers.old answers.new k.new result }
 {
-    let l = k.limits;
-    let n = numbers_of(k);
-    let m = k.mat;
-    let p = k.pad;
-    let mut marks = m.marks;
-    let mut mattimers = m.timers;
-    let mut matcells = m.cells;
-    let mut held = p.held;
-    let mut padtimers = p.timers;
-    let mut padcells = p.cells;
-    let mut datas = k.datas.words_of();
-    let mut replies = k.replies.words_of();
-    let s = runs::lent_run(
-        l,
-        n,
-        &mut marks,
-        &mut mattimers,
-        &mut matcells,
-        &mut held,
-        &mut padtimers,
-        &mut padcells,
-        &mut datas,
-        &mut replies,
-        events,
-        supply,
-        record,
-        answers,
-    );
-    let answer = s.answer;
-    let after = s.numbers;
-    let counts = s.counts;
-    Progress {
-        answer,
-        link: joined(
-            l, after, marks, mattimers, matcells, held, padtimers, padcells, datas, replies,
-        ),
-        counts,
-    }
+    let mut lent = lend!(k);
+    let result = runs::run(&mut lent, events, supply, record, answers);
+    let numbers = lent.numbers;
+    renumber(k, numbers);
+    result
 }

@@ -1,5 +1,52 @@
-// Inner: an event of two bytes and a list of them, of a link that passed question 4.
+// Inner: called by runs. A list of events, two bytes each, of a link that passed question 4 and whose arrays are lent.
 #![tactic(auto)]
 
-pub mod dispatch;
-pub mod lentrun;
+ghost use Rattle.std.specs.Prelude.{◌≡◌, true, ◌+◌, ◌/◌, ◌%◌, ◌^◌, ◌<◌, ◌≤◌, length, take};
+ghost use Rattle.limits.specs.Lists.{all};
+ghost use Rattle.events.specs.State.{added};
+ghost use Rattle.events.specs.View.{sound_link, link_state};
+ghost use Rattle.events.specs.Lent.{lent_link, StaysLent};
+ghost use Rattle.lists.specs.View.{refuses, running};
+
+use events::{Counts, LentLink};
+
+fn sum(a: Counts, b: Counts) -> Counts
+    requires { (a.sent + b.sent < 2 ^ 64) × (a.acknowledged + b.acknowledged < 2 ^ 64) × (a.recorded + b.recorded < 2 ^ 64) }
+    ensures { result ≡ added a b }
+{
+    Counts {
+        sent: a.sent + b.sent,
+        acknowledged: a.acknowledged + b.acknowledged,
+        recorded: a.recorded + b.recorded,
+    }
+}
+
+// Every event in order, each on the unsent rest of the supply and the unwritten rest of the record. Where every event was
+// refused, the link is as it was.
+pub fn run_events(
+    link: &mut LentLink<'_>,
+    events: &[u8],
+    supply: &[u16],
+    record: &mut [u16],
+    answers: &mut [u8],
+) -> Counts
+    requires { (sound_link (lent_link link.old) ≡ true) × (length events.now % 2 ≡ 0) × (length events.now / 2 ≤ length answers.old) }
+    ensures lent { StaysLent link.old link.new }
+    ensures sound { sound_link (lent_link link.new) ≡ true }
+    ensures ran { record { moved = record { state = link_state (lent_link link.new); counts = result; buffer = «record».new }; answers = answers.new }
+        ≡ running (lent_link link.old) events.now supply.now «record».old answers.old }
+    ensures still { all refuses (take (length events.now / 2) answers.new) ≡ true → lent_link link.new ≡ lent_link link.old }
+{
+    let mut counts = Counts::default();
+    for i in 0..events.len() / 2 {
+        let result = link.event(
+            events[2 * i],
+            events[2 * i + 1],
+            &supply[16 * counts.sent..],
+            &mut record[16 * counts.recorded..],
+        );
+        answers[i] = limits::answer::number(&result);
+        counts = sum(counts, result.unwrap_or_default());
+    }
+    counts
+}

@@ -10,7 +10,6 @@ use Rattle.limits.specs.Lists.{all}
 use Rattle.limits.specs.Questions.{first_no}
 use Rattle.limits.specs.Tables.{Reply, remove, no_reply}
 use Rattle.limits.specs.Events.{arrive_reply}
-use Rattle.limits.proofs.Laws.Promise.{called-done}
 use Rattle.limits.proofs.Laws.Questions.{behind-passed}
 use Rattle.mat.specs.declared.Mat.{Mat}
 use Rattle.mat.specs.Rules.{Acknowledging, acknowledge_questions, acknowledging}
@@ -23,6 +22,7 @@ use Rattle.events.specs.declared.Link.{Link}
 use Rattle.events.specs.State.{acknowledged_by}
 use Rattle.events.specs.View.{link_state, Moves}
 use Rattle.events.proofs.Laws.Parts.{Parts, whole}
+use Rattle.events.proofs.Laws.Ends.{done}
 
 module _ (k : Link) (p : Parts k) (n : ℕ) (body : Reply) (c : ReplyFound k.replies n (Ok body)) where
   passes : first_no (place_questions n (reply_messages k.replies)) ≡ 0
@@ -47,35 +47,20 @@ module _ (k : Link) (p : Parts k) (n : ℕ) (body : Reply) (c : ReplyFound k.rep
   module _ (passed : ℕ) (m : Mat)
       (ca : AcknowledgeCall k.limits (acknowledge_questions k.limits (mat_state k.limits.window k.mat) body) (Ok passed)
       (acknowledging k.limits (mat_state k.limits.window k.mat) body) k.mat m) where
-    done : Acknowledging
-    done = acknowledging k.limits (mat_state k.limits.window k.mat) (get_or (reply_messages k.replies) n no_reply).body
-
     pub acknowledged : (left : ReplyTable) (supply b : List ℕ) → ReplyHolds k.limits left (remove n (reply_messages k.replies))
-        → Moves k supply b b (arrive_reply n)
-        (record {
-          answer = Ok tt;
-          link = record { limits = k.limits; mat = m; pad = k.pad; datas = k.datas; replies = left };
-          counts = acknowledged_by passed;
-        })
-    unfolding link_state done
+        → Moves k supply b b (arrive_reply n) (record { limits = k.limits; mat = m; pad = k.pad; datas = k.datas; replies = left }) (Ok (acknowledged_by passed))
+    unfolding link_state
     acknowledged left supply b cl =
-        called-done _ _ _ _ _ (both-asked (Ok passed) m ca) _ _ _ refl
+        done _ _ k _ b b (acknowledged_by passed) (sym (both-asked (Ok passed) m ca)) (ap acknowledged_by (ca.answered.value ∙ ap (λ x. (made x).passed) body_is))
         (λ i. record {
-          state =
-              record {
-                limits = k.limits;
-                mat = moved i;
-                pad = pad_state k.limits.window k.pad;
-                datas = data_messages k.datas;
-                replies = cl.1 i;
-              };
-          counts = acknowledged_by (rose i);
-          buffer = b;
+          limits = k.limits;
+          mat = (ca.left ∙ ap (λ x. (made x).state) body_is) i;
+          pad = pad_state k.limits.window k.pad;
+          datas = data_messages k.datas;
+          replies = cl.1 i;
         })
+        refl
         (whole _ (record { limits = p.limits; mat = ca.stays p.mat; pad = p.pad; datas = p.datas; replies = cl.0 }))
       where
-        moved : mat_state k.limits.window m ≡ done.state
-        moved = ca.left ∙ ap (λ x. (acknowledging k.limits (mat_state k.limits.window k.mat) x).state) body_is
-
-        rose : passed ≡ done.passed
-        rose = ca.answered.value ∙ ap (λ x. (acknowledging k.limits (mat_state k.limits.window k.mat) x).passed) body_is
+        made : Reply → Acknowledging
+        made = acknowledging k.limits (mat_state k.limits.window k.mat)

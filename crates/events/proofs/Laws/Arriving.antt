@@ -1,30 +1,33 @@
 -- A data message of the table arrives at the pad.
 use Prim.Native.Nat.{ℕ}
-use mathlib.Core.Path.{◌≡◌, refl, sym, ◌∙◌, ap}
+use mathlib.Core.Path.{◌≡◌, refl, sym, ◌∙◌, ap, ap₂}
 use mathlib.Core.Bool.{Bool, true, false, not, ◌||◌}
 use mathlib.Core.List.{List, [], ◌∷◌, ◌++◌}
 use lib.Dec.{ltb}
 use lib.ListN.{length, get_or}
-use Rattle.limits.specs.Answer.{number_of}
+use Rattle.limits.specs.declared.answer.Refusal.{Refusal}
 use Rattle.limits.specs.Lists.{all}
-use Rattle.std.specs.Prelude.{Ok}
-use Rattle.limits.specs.Questions.{Question, ask, first_no, Called}
-use Rattle.limits.specs.Tables.{Data, capacity, no_data}
+use Rattle.std.specs.Prelude.{Result, Ok}
+use Rattle.limits.specs.Questions.{Question, ask, first_no}
+use Rattle.limits.specs.Tables.{Data, capacity, remove, no_data}
 use Rattle.limits.specs.Events.{arrive_data}
 use Rattle.limits.proofs.Laws.Choice.{pick_yes, pick_no}
-use Rattle.limits.proofs.Laws.Promise.{called-as, called-done}
 use Rattle.limits.proofs.Laws.Questions.{behind-passed}
 use Rattle.pad.specs.Rules.{Arrival, arrival}
-use Rattle.pad.specs.View.{pad_state}
-use Rattle.air.specs.Rules.{place_questions, room_questions}
-use Rattle.air.specs.Data.{data_messages, DataFound}
+use Rattle.pad.specs.declared.Pad.{Pad}
+use Rattle.mat.specs.View.{mat_state}
+use Rattle.pad.specs.View.{pad_state, sound_pad}
+use Rattle.air.specs.Rules.{place_questions}
+use Rattle.air.specs.Data.{DataTable, data_messages, DataHolds, DataFound}
 use Rattle.air.specs.Replies.{reply_messages}
 use Rattle.events.specs.declared.Link.{Link}
-use Rattle.events.specs.declared.Progress.{Progress}
+use Rattle.events.specs.declared.Counts.{Counts}
 use Rattle.events.specs.State.{no_counts, unmoved}
 use Rattle.events.specs.Rules.{old_taken, new_taken, taken}
-use Rattle.events.specs.View.{link_state, sound_link, shown, Moves}
-use Rattle.events.proofs.Laws.Parts.{Parts}
+use Rattle.events.specs.View.{link_state, Moves}
+use Rattle.events.specs.Lent.{OldTaken}
+use Rattle.events.proofs.Laws.Parts.{Parts, whole}
+use Rattle.events.proofs.Laws.Ends.{done, call-as}
 
 -- question 18 is put of an old row alone
 old-asked : (o b : Bool) → o ≡ true → (not o || b) ≡ b
@@ -67,27 +70,24 @@ module _ (k : Link) (p : Parts k) (n : ℕ) (body : Data) (c : DataFound k.datas
       reply-is : a.reply ≡ made.reply
       reply-is = ap (λ (x : Arrival). x.reply) arrived-is
 
-      pub old-arrives : (r : Progress) (supply b : List ℕ)
-          → Called (room_questions 18 (reply_messages k.replies)) r.answer (shown r b)
-          (unmoved (old_taken (link_state k) n a.reply) b) (unmoved (link_state k) b) sound_link k r.link
-          → Moves k supply b b (arrive_data n) r
+      pub old-arrives : (k' : Link) (r : Result Counts Refusal) (supply b : List ℕ) → OldTaken k b n a.reply k' r → Moves k supply b b (arrive_data n) k' r
       unfolding link_state
-      old-arrives r supply b t =
-          called-as _ asked _ _ _ _ _ _ _ _
+      old-arrives k' r supply b t =
+          call-as _ asked _ (unmoved (taken (link_state k) n made) b) k k' b b r
           (ap (λ x. first_no (ask 18 x ∷ [])) (sym (old-asked made.old (ltb (length (reply_messages k.replies)) capacity) (old-as ∙ o))) ∙ sym asked-behind)
           (ap (λ x. unmoved x b) (ap (old_taken (link_state k) n) reply-is ∙ sym (pick_yes made.old _ _ _ (old-as ∙ o) refl)))
           t
 
-    -- a row of the window
-    pub new-arrives : (r : Progress) (supply b : List ℕ) → a.old ≡ false
-        → (r.answer ≡ (Ok tt)) × (sound_link r.link ≡ true) × (r.counts ≡ no_counts) × (link_state r.link ≡ new_taken (link_state k) n a.state)
-        → Moves k supply b b (arrive_data n) r
+    -- a row of the window, whose message left the table
+    pub new-arrives : (pad : Pad) → sound_pad k.limits pad ≡ true → a.state ≡ pad_state k.limits.window pad → (left : DataTable)
+        → DataHolds k.limits left (remove n (data_messages k.datas)) → a.old ≡ false → (supply b : List ℕ)
+        → Moves k supply b b (arrive_data n) (record { limits = k.limits; mat = k.mat; pad = pad; datas = left; replies = k.replies }) (Ok no_counts)
     unfolding link_state
-    new-arrives r supply b o t =
-        called-done asked _ _ _ _ (ap number_of t.0 ∙ sym (asked-behind ∙ pick_yes _ _ _ _ (new-passes made.old (ltb (length (reply_messages k.replies)) capacity) (old-as ∙ o)) refl))
-        _ _ _ (ap number_of t.0)
-        (λ i. record { state = (t.3 ∙ state-is) i; counts = t.2 i; buffer = b })
-        t.1
-      where
-        state-is : new_taken (link_state k) n a.state ≡ taken (link_state k) n made
-        state-is = ap (λ (x : Arrival). new_taken (link_state k) n x.state) arrived-is ∙ sym (pick_no made.old _ _ _ (old-as ∙ o) refl)
+    new-arrives pad q is' left h o supply b =
+        done asked _ k _ b b no_counts
+        (asked-behind ∙ pick_yes _ _ _ _ (new-passes made.old (ltb (length (reply_messages k.replies)) capacity) (old-as ∙ o)) refl) refl
+        (ap₂ (λ ms s. record { limits = k.limits; mat = mat_state k.limits.window k.mat; pad = s; datas = ms; replies = reply_messages k.replies }) h.1 (sym is')
+        ∙ ap (λ (x : Arrival). new_taken (link_state k) n x.state) arrived-is
+        ∙ sym (pick_no made.old _ _ _ (old-as ∙ o) refl))
+        refl
+        (whole _ (record { limits = p.limits; mat = p.mat; pad = q; datas = h.0; replies = p.replies }))

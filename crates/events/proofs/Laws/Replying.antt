@@ -17,7 +17,6 @@ use Rattle.limits.specs.Tables.{capacity, put}
 use Rattle.limits.specs.Events.{reply}
 use Rattle.limits.proofs.Laws.Choice.{pick_yes, pick_no}
 use Rattle.limits.proofs.Laws.Good.{good}
-use Rattle.limits.proofs.Laws.Promise.{called-done}
 use Rattle.limits.proofs.Laws.Questions.{each, more_stays}
 use Rattle.mat.specs.View.{mat_state}
 use Rattle.pad.specs.declared.Pad.{Pad}
@@ -32,6 +31,7 @@ use Rattle.events.specs.declared.Link.{Link}
 use Rattle.events.specs.State.{recorded_by}
 use Rattle.events.specs.View.{link_state, Moves}
 use Rattle.events.proofs.Laws.Parts.{Parts, whole}
+use Rattle.events.proofs.Laws.Ends.{done}
 
 -- 20, 21 and 18 of a pad, a record's space and a table
 module _ {A : Type 0} (s : PadState) (space : ℕ) (ms : List A) where
@@ -66,29 +66,20 @@ module _ (k : Link) (p : Parts k) (before after : List ℕ)
     (passed : Pad) (count last : ℕ) (sound : sound_pad k.limits passed ≡ true)
     (is : record { state = pad_state k.limits.window passed; count = count; reply = record { first = k.pad.wanted; last = last }; buffer = after }
     ≡ replying k.limits (pad_state k.limits.window k.pad) before) where
-  pub replies : (into : ReplyTable)
+  pub replies : (into : ReplyTable) (supply : List ℕ)
       → air.ReplyHolds k.limits into (put (record { body = record { first = k.pad.wanted; last = last }; life = k.limits.replylife }) (air.reply_messages k.replies))
-      → Moves k [] before after reply
-      (record {
-        answer = Ok tt;
-        link = record { limits = k.limits; mat = k.mat; pad = passed; datas = k.datas; replies = into };
-        counts = recorded_by count;
-      })
+      → Moves k supply before after reply (record { limits = k.limits; mat = k.mat; pad = passed; datas = k.datas; replies = into }) (Ok (recorded_by count))
   unfolding link_state
-  replies into d =
-      called-done (reply_asks (pad_state k.limits.window k.pad) (length before) (air.reply_messages k.replies)) _ _ _ _ (sym z) _ _ _ refl
+  replies into supply d =
+      done (reply_asks (pad_state k.limits.window k.pad) (length before) (air.reply_messages k.replies)) _ k _ before after _ z (ap (λ (x : Replying). recorded_by x.count) is)
       (λ i. record {
-        state =
-            record {
-              limits = k.limits;
-              mat = mat_state k.limits.window k.mat;
-              pad = (is i).state;
-              datas = data_messages k.datas;
-              replies =
-                  (d.1
-                  ∙ ap (λ (x : Replying). put (record { body = x.reply; life = k.limits.replylife }) (air.reply_messages k.replies)) is) i;
-            };
-        counts = recorded_by (is i).count;
-        buffer = (is i).buffer;
+        limits = k.limits;
+        mat = mat_state k.limits.window k.mat;
+        pad = (is i).state;
+        datas = data_messages k.datas;
+        replies =
+            (d.1
+            ∙ ap (λ (x : Replying). put (record { body = x.reply; life = k.limits.replylife }) (air.reply_messages k.replies)) is) i;
       })
+      (ap (λ (x : Replying). x.buffer) is)
       (whole _ (record { limits = p.limits; mat = p.mat; pad = sound; datas = p.datas; replies = d.0 }))

@@ -15,20 +15,19 @@ use Rattle.pad.specs.declared.Pad.{Pad}
 use Rattle.air.specs.Data.{DataTable, data_messages, DataHolds}
 use Rattle.air.specs.Replies.{ReplyTable, reply_messages, ReplyHolds}
 use Rattle.events.specs.declared.Link.{Link}
-use Rattle.events.specs.declared.Progress.{Progress}
+use Rattle.events.specs.State.{no_counts}
 use Rattle.events.specs.View.{link_state, Moves}
 use Rattle.events.proofs.Laws.Parts.{Parts, whole}
-use Rattle.events.proofs.Laws.Stays.{Stayed, stays-done}
+use Rattle.events.proofs.Laws.Ends.{done}
 
 module _ (k : Link) (p : Parts k) (d : ℕ) (m : Mat) (q : Pad) (ds : DataTable) (rs : ReplyTable) where
   pub ticks : (mat.sound_mat k.limits m ≡ true) × (mat.mat_state k.limits.window m ≡ mat_rules.ticked d (mat.mat_state k.limits.window k.mat))
       → (pad.sound_pad k.limits q ≡ true) × (pad.pad_state k.limits.window q ≡ pad_rules.ticked d (pad.pad_state k.limits.window k.pad))
       → DataHolds k.limits ds (age d (data_messages k.datas)) → ReplyHolds k.limits rs (age d (reply_messages k.replies))
-      → (r : Progress) (supply b : List ℕ)
-      → Stayed (record { limits = k.limits; mat = m; pad = q; datas = ds; replies = rs }) (Ok tt) r → Moves k supply b b (tick d) r
+      → (supply b : List ℕ) → Moves k supply b b (tick d) (record { limits = k.limits; mat = m; pad = q; datas = ds; replies = rs }) (Ok no_counts)
   unfolding link_state
-  ticks cm cp cd cr r supply b s =
-      stays-done [] k _ r (Ok tt) b _ s refl refl
+  ticks cm cp cd cr supply b =
+      done [] _ k _ b b no_counts refl refl
       (λ i. record {
         limits = k.limits;
         mat = cm.1 i;
@@ -36,4 +35,5 @@ module _ (k : Link) (p : Parts k) (d : ℕ) (m : Mat) (q : Pad) (ds : DataTable)
         datas = cd.1 i;
         replies = cr.1 i;
       })
+      refl
       (whole _ (record { limits = p.limits; mat = cm.0; pad = cp.0; datas = cd.0; replies = cr.0 }))

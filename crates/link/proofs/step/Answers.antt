@@ -1,7 +1,5 @@
-use Rattle.runs.specs.View.{Stepped}
-use Rattle.link.proofs.Laws.Apart.{apart, together}
-use mathlib.Core.Path.{refl}
+use Rattle.link.proofs.Laws.Lent.{put-back}
 use Rattle.link.proofs.step.Goals as goal
 
 pub returns : goal.returns
-returns c = let u = c.lent_step-s in together (λ k r. Stepped k c.args.kind c.args.argument c.args.supply.now c.args.«record».now u.new.record r) c.args.k _ _ _ _ _ (apart c.args.k _ _ _ _ _ _ _ _ _ c.numbers_of-n.ensures refl refl refl refl refl refl c.words_of-datas.ensures c.words_of-replies.ensures) c.joined.ensures u.ensures
+returns c = let u = c.step-result in rw (put-back c.args.k.now u.new.link c.renumber.new.k u.ensures.lent.0 c.renumber.ensures) u.ensures.stepped

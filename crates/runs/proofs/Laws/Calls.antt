@@ -6,23 +6,24 @@ use mathlib.Core.List.{List, [], ◌∷◌, ◌++◌}
 use lib.Dec.{eqb, leb}
 use lib.ListN.{length, take}
 use borrow.Author.Tests.{eq-eqb, ne_eqb, le-leb, lt-leb, eqb-true, leb-true}
-use Rattle.limits.specs.Questions.{Answer}
+use Rattle.limits.specs.declared.answer.Refusal.{Refusal}
 use Rattle.limits.specs.declared.answer.Refusal.TheVariants.{Unsound, PartialRow}
-use Rattle.std.specs.Prelude.{Ok, Err}
-use Rattle.limits.specs.Answer.{number_of}
+use Rattle.std.specs.Prelude.{Result, Ok, Err}
+use Rattle.std.specs.Result.{IsErrAnd}
+use Rattle.limits.specs.Answer.{refusal_number}
 use Rattle.limits.specs.Questions.{Question, ask, first_no}
 use Rattle.limits.specs.Lists.{all}
 use Rattle.limits.specs.Events.{event}
 use Rattle.limits.proofs.Laws.Choice.{pick_yes, pick_no}
-use Rattle.limits.proofs.Laws.Promise.{called-as, called-done, called-refused}
+use Rattle.limits.proofs.Laws.Promise.{changed-handed_on}
 use Rattle.limits.proofs.Laws.Questions.{each}
 use Rattle.events.specs.declared.Link.{Link}
-use Rattle.events.specs.declared.Progress.{Progress}
+use Rattle.events.specs.declared.Counts.{Counts}
 use Rattle.events.specs.Rules.{questions}
-use Rattle.events.specs.View.{link_state, sound_link, shown, Moves}
-use Rattle.lists.specs.View.{refuses, running}
+use Rattle.events.specs.View.{link_state, sound_link, Moves}
+use Rattle.lists.specs.View.{Run, refuses, running}
 use Rattle.runs.specs.View.{Stepped, Ran, whole_rows, lent_asks, lent_questions}
-use Rattle.events.proofs.Laws.Stays.{Stayed, shown-stays, stays-refused}
+use Rattle.events.proofs.Laws.Ends.{refused, call-as}
 
 -- a question that is answered no, and one that is passed, in front of others
 no-first : (code : ℕ) (b : Bool) (qs : List Question) → b ≡ false → code ≡ first_no (ask code b ∷ qs)
@@ -31,54 +32,62 @@ no-first code b qs e = sym (pick_no b (first_no qs) code code e refl)
 no-later : (code : ℕ) (b : Bool) (qs : List Question) (found : ℕ) → b ≡ true → found ≡ first_no qs → found ≡ first_no (ask code b ∷ qs)
 no-later code b qs found e f = f ∙ sym (pick_yes b (first_no qs) code (first_no qs) e refl)
 
-module _ (k : Link) (kind argument : ℕ) (supply before : List ℕ) (r : Progress) where
-  pub step-unsound : sound_link k ≡ false → Stayed k (Err Unsound) r → Stepped k kind argument supply before before r
-  step-unsound e s = stays-refused (ask 4 (sound_link k) ∷ (whole_rows supply ++ questions supply (length before) (link_state k) (event kind argument))) k r (Err Unsound) before _ s (no-first 4 (sound_link k) (whole_rows supply ++ questions supply (length before) (link_state k) (event kind argument)) e) refl
+module _ (k : Link) (kind argument : ℕ) (supply before : List ℕ) where
+  abbrev own : List Question
+  own = questions supply (length before) (link_state k) (event kind argument)
+
+  pub step-unsound : sound_link k ≡ false → Stepped k kind argument supply before before k (Err Unsound)
+  step-unsound e = refused _ _ k k before Unsound (no-first 4 (sound_link k) (whole_rows supply ++ own) e) refl
 
   module _ (e : sound_link k ≡ true) where
-    pub step_partial : (length supply % 16 ≡ 0 → ⊥) → Stayed k (Err PartialRow) r → Stepped k kind argument supply before before r
-    step_partial n s =
-        stays-refused (ask 4 (sound_link k) ∷ (whole_rows supply ++ questions supply (length before) (link_state k) (event kind argument))) k r (Err PartialRow) before _ s
-        (no-later 4 (sound_link k) (whole_rows supply ++ questions supply (length before) (link_state k) (event kind argument)) 6 e
-        (no-first 6 (eqb (length supply % 16) 0) (questions supply (length before) (link_state k) (event kind argument)) (ne_eqb (length supply % 16) 0 n)))
-        refl
+    pub step_partial : (length supply % 16 ≡ 0 → ⊥) → Stepped k kind argument supply before before k (Err PartialRow)
+    step_partial n =
+        refused _ _ k k before PartialRow
+        (no-later 4 (sound_link k) (whole_rows supply ++ own) 6 e (no-first 6 (eqb (length supply % 16) 0) own (ne_eqb (length supply % 16) 0 n))) refl
 
-    pub step-asked : (after : List ℕ) → length supply % 16 ≡ 0 → Moves k supply before after (event kind argument) r → Stepped k kind argument supply before after r
-    step-asked after z m =
-        called-as _ (ask 4 (sound_link k) ∷ (whole_rows supply ++ questions supply (length before) (link_state k) (event kind argument))) _ _ _ _ _ _ _ _
-        (no-later 4 (sound_link k) (whole_rows supply ++ questions supply (length before) (link_state k) (event kind argument)) _ e
-        (no-later 6 (eqb (length supply % 16) 0) (questions supply (length before) (link_state k) (event kind argument)) _ (eq-eqb (length supply % 16) 0 z) refl))
+    pub step-asked : (after : List ℕ) (k' : Link) (r : Result Counts Refusal) → length supply % 16 ≡ 0
+        → Moves k supply before after (event kind argument) k' r → Stepped k kind argument supply before after k' r
+    step-asked after k' r z m =
+        call-as own (ask 4 (sound_link k) ∷ (whole_rows supply ++ own)) _ _ k k' before after r
+        (no-later 4 (sound_link k) (whole_rows supply ++ own) _ e (no-later 6 (eqb (length supply % 16) 0) own _ (eq-eqb (length supply % 16) 0 z) refl))
         refl m
 
-module _ (k : Link) (bytes supply before answers : List ℕ) (r : Progress) where
+module _ (k : Link) (bytes supply before answers : List ℕ) where
   abbrev asked : List Question
   asked = ask 4 (sound_link k) ∷ lent_questions bytes supply answers
 
-  run-refused : (a : Answer) → Stayed k a r → number_of a ≡ first_no asked → eqb (number_of a) 0 ≡ false → Ran k bytes supply before before answers answers r
-  run-refused a s e z =
-      record {
-        called = called-refused asked _ _ _ _ (ap number_of s.0 ∙ e) _ _ _ (ap (λ x. eqb (number_of x) 0) s.0 ∙ z)
-            (ap (λ m. record { moved = m; answers = answers }) (shown-stays k a r before s)) s.1;
-        still = λ _. s.1;
-      }
+  -- 4, 5, 6 or 7
+  pub run-refused : (r : Result Counts Refusal) (x : Refusal) → IsErrAnd r (λ e. e ≡ x) → refusal_number x ≡ first_no asked
+      → Ran k bytes supply before before answers answers k r
+  run-refused r x i e = record { called = changed-handed_on asked r x _ _ _ _ _ _ i e refl; still = λ _. refl }
 
-  pub run-unsound : sound_link k ≡ false → Stayed k (Err Unsound) r → Ran k bytes supply before before answers answers r
-  run-unsound e s = run-refused (Err Unsound) s (no-first 4 (sound_link k) (lent_questions bytes supply answers) e) refl
+  pub run-unsound : sound_link k ≡ false → Ran k bytes supply before before answers answers k (Err Unsound)
+  run-unsound e = run-refused (Err Unsound) Unsound refl (no-first 4 (sound_link k) (lent_questions bytes supply answers) e)
 
-  -- 5, 6 or 7
-  pub run-asked : (a : Answer) → sound_link k ≡ true → number_of a ≡ first_no (lent_questions bytes supply answers) → eqb (number_of a) 0 ≡ false → Stayed k a r
-      → Ran k bytes supply before before answers answers r
-  run-asked a e f z s = run-refused a s (no-later 4 (sound_link k) (lent_questions bytes supply answers) (number_of a) e f) z
+  module _ (e : sound_link k ≡ true) where
+    pub run-asked : (r : Result Counts Refusal) (x : Refusal) → IsErrAnd r (λ e. e ≡ x) → refusal_number x ≡ first_no (lent_questions bytes supply answers)
+        → Ran k bytes supply before before answers answers k r
+    run-asked r x i f = run-refused r x i (no-later 4 (sound_link k) (lent_questions bytes supply answers) _ e f)
 
-  pub run-done : (after answers_after : List ℕ) → sound_link k ≡ true → number_of r.answer ≡ first_no (lent_questions bytes supply answers) → number_of r.answer ≡ 0
-      → (sound_link r.link ≡ true) × (record { moved = shown r after; answers = answers_after } ≡ running k bytes supply before answers)
-      → (all refuses (take (length bytes / 2) answers_after) ≡ true → r.link ≡ k)
-      → Ran k bytes supply before after answers answers_after r
-  run-done after answers_after e f z t same =
-      record {
-        called = called-done asked _ _ _ _ (no-later 4 (sound_link k) (lent_questions bytes supply answers) _ e f) _ _ _ z t.1 t.0;
-        still = same;
-      }
+    pub run-done : (after answers_after : List ℕ) (k' : Link) (n : Counts) → 0 ≡ first_no (lent_questions bytes supply answers) → sound_link k' ≡ true
+        → record { moved = record { state = link_state k'; counts = n; buffer = after }; answers = answers_after } ≡ running k bytes supply before answers
+        → (all refuses (take (length bytes / 2) answers_after) ≡ true → k' ≡ k)
+        → Ran k bytes supply before after answers answers_after k' (Ok n)
+    run-done after answers_after k' n f h t same =
+        record {
+          called =
+              record {
+                answered =
+                    record {
+                      number = no-later 4 (sound_link k) (lent_questions bytes supply answers) 0 e f;
+                      value = ap (λ (x : Run). x.moved.counts) t;
+                    };
+                left = λ i. ((t i).moved.state, (t i).moved.buffer, (t i).answers);
+                kept = tt;
+                stays = λ _. h;
+              };
+          still = same;
+        }
 
 -- 5, 6 and 7, one after the other
 module _ (bytes supply answers : ℕ) where
@@ -103,9 +112,8 @@ module _ (bytes supply answers : ℕ) where
       fits_all h = last 0 (sym (pick_yes (leb (bytes / 2) answers) 0 7 0 (le-leb (bytes / 2) answers h) refl))
 
 -- what a run wants of what is lent
-pub run-needs : (bytes supply answers : ℕ) (a : Answer) → number_of a ≡ first_no (lent_asks bytes supply answers) → number_of a ≡ 0
-    → (bytes % 2 ≡ 0) × (bytes / 2 ≤ answers)
+pub run-needs : (bytes supply answers : ℕ) → 0 ≡ first_no (lent_asks bytes supply answers) → (bytes % 2 ≡ 0) × (bytes / 2 ≤ answers)
 unfolding all
-run-needs bytes supply answers a e z =
-    let passed = each (lent_asks bytes supply answers) refl (sym e ∙ z) in
+run-needs bytes supply answers e =
+    let passed = each (lent_asks bytes supply answers) refl (sym e) in
     (eqb-true (bytes % 2) 0 passed.0, leb-true (bytes / 2) answers passed.1.1.0)

@@ -1,14 +1,14 @@
 use Rattle.runs.proofs.Laws.Calls.{fits_all, fits-short, fits-partial, fits-odd}
 use Rattle.runs.proofs.lent_fits.Goals as goal
 
-pub returns-then-events-answers : goal.returns-then-events-answers
-returns-then-events-answers c = fits_all _ _ _ c.if-events-eq0.true c.if-supply-eq0.true c.if-events-answers.true
+pub returns-then-events-ne0 : goal.returns-then-events-ne0
+returns-then-events-ne0 c = fits-odd c.args.events c.args.supply c.args.answers c.if-events-ne0.true
 
-pub returns-else-events-answers : goal.returns-else-events-answers
-returns-else-events-answers c = fits-short _ _ _ c.if-events-eq0.true c.if-supply-eq0.true c.if-events-answers.false
+pub returns-then-supply-ne0 : goal.returns-then-supply-ne0
+returns-then-supply-ne0 c = fits-partial _ _ _ c.if-events-ne0.false c.if-supply-ne0.true
 
-pub returns-else-supply-eq0 : goal.returns-else-supply-eq0
-returns-else-supply-eq0 c = fits-partial _ _ _ c.if-events-eq0.true c.if-supply-eq0.false
+pub returns-then-answers-events : goal.returns-then-answers-events
+returns-then-answers-events c = fits-short _ _ _ c.if-events-ne0.false c.if-supply-ne0.false c.if-answers-events.true
 
-pub returns-else-events-eq0 : goal.returns-else-events-eq0
-returns-else-events-eq0 c = fits-odd c.args.events c.args.supply c.args.answers c.if-events-eq0.false
+pub returns : goal.returns
+returns c = fits_all _ _ _ c.if-events-ne0.false c.if-supply-ne0.false c.if-answers-events.false

@@ -1,0 +1,50 @@
+-- How a call on a link ends: refused, or done.
+use Prim.Native.Nat.{ℕ}
+use mathlib.Core.Path.{◌≡◌, sym, ap}
+use mathlib.Core.Bool.{Bool, true}
+use mathlib.Core.List.{List}
+use Rattle.std.specs.Prelude.{Result, Ok, Err}
+use Rattle.std.specs.Result.{IsErrAnd}
+use Rattle.limits.specs.declared.answer.Refusal.{Refusal}
+use Rattle.limits.specs.Answer.{refusal_number}
+use Rattle.limits.specs.Events.{Event}
+use Rattle.limits.specs.Questions.{Question, first_no}
+use Rattle.limits.proofs.Laws.Promise.{changed-refused, changed-handed_on, changed-as}
+use Rattle.mat.specs.View.{mat_of}
+use Rattle.events.specs.declared.Link.{Link}
+use Rattle.events.specs.declared.Counts.{Counts}
+use Rattle.events.specs.State.{Moved, no_counts}
+use Rattle.events.specs.View.{link_state, sound_link, LinkCall, Moves}
+
+module _ (qs : List Question) (moved : Moved) (k k' : Link) where
+  pub refused : (b : List ℕ) (x : Refusal) → refusal_number x ≡ first_no qs → k' ≡ k → LinkCall qs moved k b k' b (Err x)
+  refused b x e h = changed-refused qs x _ _ _ _ _ _ e (ap (λ y. (y, b)) h)
+
+  -- a refusal that `?` hands on
+  pub handed_on : (b : List ℕ) (r : Result Counts Refusal) (x : Refusal) → IsErrAnd r (λ e. e ≡ x) → refusal_number x ≡ first_no qs → k' ≡ k
+      → LinkCall qs moved k b k' b r
+  handed_on b r x i e h = changed-handed_on qs r x _ _ _ _ _ _ i e (ap (λ y. (y, b)) h)
+
+  pub done : (before after : List ℕ) (counts : Counts) → first_no qs ≡ 0 → counts ≡ moved.counts → link_state k' ≡ moved.state → after ≡ moved.buffer
+      → sound_link k' ≡ true → LinkCall qs moved k before k' after (Ok counts)
+  done before after counts z c s b h =
+      record { answered = record { number = sym z; value = c }; left = λ i. (s i, b i); kept = tt; stays = λ _. h }
+
+-- the same promise by other questions with the same first no, and of an event that does the same
+pub call-as : (qs qs' : List Question) (moved moved' : Moved) (k k' : Link) (before after : List ℕ) (r : Result Counts Refusal)
+    → first_no qs ≡ first_no qs' → moved ≡ moved' → LinkCall qs moved k before k' after r → LinkCall qs' moved' k before k' after r
+call-as qs qs' moved moved' k k' before after r e m c = changed-as qs qs' r _ _ _ _ _ _ e (rw m at c)
+
+-- what `Counts::default` gives
+pub zeros : (n : Counts) → (n.sent ≡ 0) × ((n.acknowledged ≡ 0) × (n.recorded ≡ 0)) → n ≡ no_counts
+zeros n e = λ i. record { sent = e.0 i; acknowledged = e.1.0 i; recorded = e.1.1 i }
+
+-- a mat whose marks came back as they were
+pub same-marks : (k : Link) (oldest : ℕ) (marks : List Bool) → mat_of oldest k.mat.next marks k.mat.timers k.mat.cells ≡ k.mat
+    → record { limits = k.limits; mat = mat_of k.mat.oldest k.mat.next marks k.mat.timers k.mat.cells; pad = k.pad; datas = k.datas; replies = k.replies } ≡ k
+same-marks k oldest marks e = λ i. record { limits = k.limits; mat = mat_of k.mat.oldest k.mat.next (e i).marks k.mat.timers k.mat.cells; pad = k.pad; datas = k.datas; replies = k.replies }
+
+-- a promise by another name of the event
+pub moves-as : (k : Link) (supply before after : List ℕ) (e e' : Event) (k' : Link) (r : Result Counts Refusal) → e ≡ e'
+    → Moves k supply before after e k' r → Moves k supply before after e' k' r
+moves-as k supply before after e e' k' r q m = rw (← q) m

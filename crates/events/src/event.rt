@@ -1,0 +1,72 @@
+// Inner: called by lists. An event as its two bytes say it, and what a link does at it.
+ghost use Rattle.std.specs.Prelude.{◌≡◌, true};
+ghost use Rattle.limits.specs.Events.{event};
+ghost use Rattle.events.specs.View.{sound_link, Moves};
+ghost use Rattle.events.specs.Lent.{lent_link, StaysLent, event_of, ReadAs};
+
+use crate::{Counts, LentLink};
+use limits::answer::Refusal;
+
+// Messages and outstanding rows are counted from the oldest, which is 0.
+#[derive(Clone, Copy)]
+pub enum Event {
+    Send,
+    Resend(usize),
+    ArriveData(usize),
+    Reply,
+    ArriveReply(usize),
+    LoseData(usize),
+    LoseReply(usize),
+    Tick(u16),
+}
+
+impl Event {
+    // The event of a kind and an argument: 8, 9.
+    pub fn read(kind: u8, argument: u8) -> Result<Event, Refusal>
+        ensures { ReadAs kind argument result }
+    {
+        let p = usize::from(argument);
+        match kind {
+            1 if argument == 0 => Ok(Event::Send),
+            2 => Ok(Event::Resend(p)),
+            3 => Ok(Event::ArriveData(p)),
+            4 if argument == 0 => Ok(Event::Reply),
+            5 => Ok(Event::ArriveReply(p)),
+            6 => Ok(Event::LoseData(p)),
+            7 => Ok(Event::LoseReply(p)),
+            8 if argument != 0 => Ok(Event::Tick(u16::from(argument))),
+            1 | 4 | 8 => Err(Refusal::BadArgument),
+            _ => Err(Refusal::UnknownKind),
+        }
+    }
+}
+
+impl LentLink<'_> {
+    // The questions of the event's kind, and what it does.
+    fn act(&mut self, event: Event, supply: &[u16], record: &mut [u16]) -> Result<Counts, Refusal>
+        requires { sound_link (lent_link self.old) ≡ true }
+        ensures lent { StaysLent self.old self.new }
+        ensures moves { Moves (lent_link self.old) supply.now «record».old «record».new (event_of event) (lent_link self.new) result }
+    {
+        match event {
+            Event::Send => self.send(supply),
+            Event::Resend(k) => self.resend(k),
+            Event::ArriveData(p) => self.arrive_data(p),
+            Event::Reply => self.reply(record),
+            Event::ArriveReply(p) => self.arrive_reply(p),
+            Event::LoseData(p) => self.lose_data(p),
+            Event::LoseReply(p) => self.lose_reply(p),
+            Event::Tick(d) => self.tick(d),
+        }
+    }
+
+    // An event of two bytes: 8, 9, then the questions of its kind.
+    pub fn event(&mut self, kind: u8, argument: u8, supply: &[u16], record: &mut [u16]) -> Result<Counts, Refusal>
+        requires { sound_link (lent_link self.old) ≡ true }
+        ensures lent { StaysLent self.old self.new }
+        ensures moves { Moves (lent_link self.old) supply.now «record».old «record».new (event kind argument) (lent_link self.new) result }
+    {
+        let event = Event::read(kind, argument)?;
+        self.act(event, supply, record)
+    }
+}
