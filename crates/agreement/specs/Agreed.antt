@@ -45,7 +45,7 @@ pub record Agreed (l : Limits) (supply first : List ℕ) (x : Line) (cs : List M
   pub answers : all_numbers supply cs ≡ answers l supply (length first) fresh (all_events supply cs)
   pub same : Same l supply first (end_of x cs) (after_all l supply (length first) fresh (all_events supply cs))
   pub never_refused : all never_full (all_numbers supply cs) ≡ true
-  pub never_unsound : all (λ (c : Made). not (eqb (number_of c.result.answer) 4)) cs ≡ true
+  pub never_unsound : all (λ (c : Made). not (eqb (number_of c.result) 4)) cs ≡ true
 
 -- Demand 3: whatever was opened, whatever is called and whatever the air did.
 abbrev pub Agreement : Type 0

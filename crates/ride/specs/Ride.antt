@@ -1,15 +1,15 @@
 -- What a ride promises. A ride opens a link and runs a list of events on it: the result is that of the unbounded ends.
-use Rattle.std.specs.Prelude.{ℕ, ◌*◌, ◌/◌, List, ◌++◌, length, take, drop}
+use Rattle.std.specs.Prelude.{ℕ, ◌*◌, ◌/◌, ◌≡◌, List, ◌++◌, length, take, drop, Result, IfOk, OnErr}
 use Rattle.limits.specs.declared.Limits.{Limits}
 use Rattle.limits.specs.Limits.{limits_questions, accepted}
-use Rattle.limits.specs.Questions.{Question, Answers}
+use Rattle.limits.specs.declared.answer.Refusal.{Refusal}
+use Rattle.limits.specs.Answer.{number_of}
+use Rattle.limits.specs.Questions.{Question, first_no}
 use Rattle.limits.specs.Events.{events}
 use Rattle.unbounded.specs.Ends.{Ends, fresh}
 use Rattle.unbounded.specs.Lists as unbounded
 use Rattle.events.specs.declared.Counts.{Counts}
-use Rattle.events.specs.State.{no_counts}
 use Rattle.runs.specs.View.{lent_questions}
-use Rattle.ride.specs.declared.Outcome.{Outcome}
 
 -- 1, 2, 3 of the limits, then 5, 6, 7 of what is lent. A link just opened passes 4.
 abbrev pub ride_questions : Limits → List ℕ → List ℕ → List ℕ → List Question
@@ -42,8 +42,8 @@ riding asked bytes supply before answers_before =
       answers = answers_of asked bytes supply (length before) ++ drop (length bytes / 2) answers_before;
     }
 
--- A refused ride has counts 0 and writes nothing.
-abbrev pub Rode : Limits → List ℕ → List ℕ → List ℕ → List ℕ → List ℕ → List ℕ → Outcome → Type 0
-Rode asked bytes supply before after answers_before answers_after r =
-    Answers (ride_questions asked bytes supply answers_before) r.answer (record { counts = r.counts; buffer = after; answers = answers_after })
-    (riding asked bytes supply before answers_before) (record { counts = no_counts; buffer = before; answers = answers_before })
+-- A refused ride writes nothing.
+pub record Rode (asked : Limits) (bytes supply before after answers_before answers_after : List ℕ) (r : Result Counts Refusal) : Type 0 where
+  pub number : number_of r ≡ first_no (ride_questions asked bytes supply answers_before)
+  pub done : IfOk r (λ n. record { counts = n; buffer = after; answers = answers_after } ≡ riding asked bytes supply before answers_before)
+  pub kept : OnErr r ((after ≡ before) × (answers_after ≡ answers_before))

@@ -1,18 +1,11 @@
 // A link opened and run from fresh on lent slices, promised against the unbounded ends.
 #![tactic(auto)]
 
-ghost use Rattle.std.specs.Prelude.{◌≡◌};
 ghost use Rattle.ride.specs.Ride.{Rode};
 
 use events::Counts;
 use limits::Limits;
 use limits::answer::Refusal;
-
-#[derive(Clone, Copy)]
-pub struct Outcome {
-    pub answer: Result<(), Refusal>,
-    pub counts: Counts,
-}
 
 // Opens a link and runs the events on it: 1, 2, 3, then 5, 6, 7.
 pub fn ride(
@@ -21,25 +14,10 @@ pub fn ride(
     supply: &[u16],
     record: &mut [u16],
     answers: &mut [u8],
-) -> Outcome
+) -> Result<Counts, Refusal>
     ensures { Rode asked events.now supply.now «record».old «record».new
         answers.old answers.new result }
 {
-    let fresh = match link::open(asked) {
-        Ok(link) => link,
-        Err(refusal) => {
-            return Outcome {
-                answer: Err(refusal),
-                counts: Counts {
-                    sent: 0,
-                    acknowledged: 0,
-                    recorded: 0,
-                },
-            };
-        }
-    };
-    let progress = link::run(fresh, events, supply, record, answers);
-    let answer = progress.answer;
-    let counts = progress.counts;
-    Outcome { answer, counts }
+    let mut fresh = link::open(asked)?;
+    link::run(&mut fresh, events, supply, record, answers)
 }

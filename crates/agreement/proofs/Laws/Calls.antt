@@ -42,7 +42,7 @@ answers-append l supply space s (e ∷ es) fs = ap (answer l supply space s e �
 pub record Came (l : Limits) (supply first : List ℕ) (x : Line) (s : Ends) (cs : List Made) : Type 0 where
   pub numbers : all_numbers supply cs ≡ answers l supply (length first) s (all_events supply cs)
   pub track : Track l supply first (shown_line (end_of x cs)) (after_all l supply (length first) s (all_events supply cs))
-  pub never-4 : all (λ (c : Made). not4 (number_of c.result.answer)) cs ≡ true
+  pub never-4 : all (λ (c : Made). not4 (number_of c.result)) cs ≡ true
 
 track-by : (l : Limits) (supply first : List ℕ) (y z : Moved) (s u : Ends) → y ≡ z → s ≡ u → Track l supply first z u → Track l supply first y s
 track-by l supply first y z s u e h t = rw (e, h) t

@@ -11,10 +11,12 @@ use Rattle.limits.specs.Answer.{number_of}
 use Rattle.limits.specs.Questions.{pick, Question, ask, first_no}
 use Rattle.limits.specs.Events.{Event, event, events}
 use Rattle.limits.proofs.Laws.Choice.{pick_yes}
-use Rattle.events.specs.State.{Moved, unmoved}
+use Rattle.events.specs.State.{Moved, risen, unmoved}
+use Rattle.events.proofs.Laws.Ends.{shows}
+use Rattle.runs.proofs.Laws.Calls.{run-shows}
 use Rattle.events.specs.Rules.{questions, acted, answer, stepped}
 use Rattle.lists.specs.Runs.{supply_left, buffer_left, continued, next, after_all, answers}
-use Rattle.events.specs.View.{link_state, sound_link, shown}
+use Rattle.events.specs.View.{link_state, sound_link}
 use Rattle.lists.specs.View.{Run, running}
 use Rattle.runs.specs.View.{whole_rows, lent_questions}
 use Rattle.agreement.specs.Calls.{Call, run, single, Made, Line, following, Met, events_of, given_by}
@@ -24,10 +26,13 @@ use Rattle.agreement.proofs.Laws.Shift.{continued-unmoved, shift, shift-numbers,
 abbrev pub shown_line : Line → Moved
 shown_line x = record { state = link_state x.link; counts = x.counts; buffer = x.buffer }
 
+abbrev pub left_by : Made → Moved
+left_by c = record { state = link_state c.link; counts = risen c.result; buffer = c.buffer }
+
 -- the call `call` of `c` on the line x
 pub record Follows (supply : List ℕ) (x : Line) (c : Made) (call : Call) : Type 0 where
-  pub sound : sound_link c.result.link ≡ true
-  pub not-4 : not4 (number_of c.result.answer) ≡ true
+  pub sound : sound_link c.link ≡ true
+  pub not-4 : not4 (number_of c.result) ≡ true
   pub moved : shown_line (following x c) ≡ after_all supply (shown_line x) (events_of supply call)
   pub numbers : take (length (events_of supply call)) (given_by call c) ≡ answers supply (shown_line x) (events_of supply call)
 
@@ -91,8 +96,8 @@ module _ (supply : List ℕ) (x : Line) (c : Made) (sound : sound_link x.link �
   unfolding continued
   follows-run bytes before m =
       record {
-        sound = m.called.keeps.stays sound;
-        not-4 = ap not4 (m.called.answers.number ∙ passes) ∙ run-not4 bytes (supply_left supply (shown_line x)) before;
+        sound = m.called.stays sound;
+        not-4 = ap not4 (m.called.answered.number ∙ passes) ∙ run-not4 bytes (supply_left supply (shown_line x)) before;
         moved = both.0;
         numbers = both.1;
       }
@@ -105,12 +110,12 @@ module _ (supply : List ℕ) (x : Line) (c : Made) (sound : sound_link x.link �
       whole =
           ap (λ b. first_no (ask 5 (eqb (length bytes % 2) 0) ∷ ask 6 b ∷ ask 7 (leb (length bytes / 2) (length before)) ∷ [])) rows_same
 
-      both : (continued (shown_line x) (shown c.result c.buffer) ≡ after_all supply (shown_line x) (events_of supply (run bytes before)))
+      both : (continued (shown_line x) (left_by c) ≡ after_all supply (shown_line x) (events_of supply (run bytes before)))
           × (take (length (events_of supply (run bytes before))) c.answers ≡ answers supply (shown_line x) (events_of supply (run bytes before)))
       both =
           run_moved supply (shown_line x) within (events bytes) (drop (length bytes / 2) before) before
-          (eqb (first_no (lent_questions bytes supply before)) 0) (record { moved = shown c.result c.buffer; answers = c.answers })
-          (m.called.answers.result
+          (eqb (first_no (lent_questions bytes supply before)) 0) (record { moved = left_by c; answers = c.answers })
+          (run-shows _ x.link bytes _ _ before c.link c.buffer c.answers c.result m.called
           ∙ ap
           (λ n. pick (eqb n 0) (running x.link bytes (supply_left supply (shown_line x)) (buffer_left (shown_line x)) before)
           (record { moved = unmoved (link_state x.link) (buffer_left (shown_line x)); answers = before }))
@@ -122,9 +127,9 @@ module _ (supply : List ℕ) (x : Line) (c : Made) (sound : sound_link x.link �
   unfolding continued stepped
   follows-single kind argument m =
       record {
-        sound = m.keeps.stays sound;
+        sound = m.stays sound;
         not-4 =
-            ap not4 (m.answers.number ∙ passes)
+            ap not4 (m.answered.number ∙ passes)
             ∙ single-not4 (supply_left supply (shown_line x)) (length (buffer_left (shown_line x))) (link_state x.link) (event kind argument);
         moved = both.0;
         numbers = both.1;
@@ -146,14 +151,14 @@ module _ (supply : List ℕ) (x : Line) (c : Made) (sound : sound_link x.link �
       refused : Moved
       refused = unmoved (link_state x.link) (buffer_left (shown_line x))
 
-      both : (continued (shown_line x) (shown c.result c.buffer) ≡ after_all supply (shown_line x) (events_of supply (single kind argument)))
-          × (take (length (events_of supply (single kind argument))) (number_of c.result.answer ∷ [])
+      both : (continued (shown_line x) (left_by c) ≡ after_all supply (shown_line x) (events_of supply (single kind argument)))
+          × (take (length (events_of supply (single kind argument))) (number_of c.result ∷ [])
           ≡ answers supply (shown_line x) (events_of supply (single kind argument)))
       both =
-          single-moved supply (shown_line x) within (event kind argument) (eqb (first_no (whole_rows supply)) 0) (number_of c.result.answer)
-          (shown c.result c.buffer)
-          (m.answers.result ∙ ap (λ n. pick (eqb n 0) done refused) (passes ∙ whole) ∙ refused-early (eqb (length supply % 16) 0) (first_no own) done refused)
-          (λ t. m.answers.number ∙ passes ∙ whole ∙ asked-on (eqb (length supply % 16) 0) (first_no own) t)
+          single-moved supply (shown_line x) within (event kind argument) (eqb (first_no (whole_rows supply)) 0) (number_of c.result)
+          (left_by c)
+          (shows _ _ x.link _ c.link c.buffer c.result m ∙ ap (λ n. pick (eqb n 0) done refused) (passes ∙ whole) ∙ refused-early (eqb (length supply % 16) 0) (first_no own) done refused)
+          (λ t. m.answered.number ∙ passes ∙ whole ∙ asked-on (eqb (length supply % 16) 0) (first_no own) t)
 
   pub follows : (call : Call) → Met x.link (supply_left supply (shown_line x)) (buffer_left (shown_line x)) c call → Follows supply x c call
   follows (run bytes before) m = follows-run bytes before m

@@ -1,19 +1,22 @@
 -- How a call on a link ends: refused, or done.
 use Prim.Native.Nat.{ℕ}
-use mathlib.Core.Path.{◌≡◌, sym, ap}
+use mathlib.Core.Path.{◌≡◌, refl, sym, ◌∙◌, ap}
 use mathlib.Core.Bool.{Bool, true}
 use mathlib.Core.List.{List}
+use lib.Dec.{eqb}
+use borrow.Author.Tests.{eq-eqb}
 use Rattle.std.specs.Prelude.{Result, Ok, Err}
 use Rattle.std.specs.Result.{IsErrAnd}
 use Rattle.limits.specs.declared.answer.Refusal.{Refusal}
 use Rattle.limits.specs.Answer.{refusal_number}
 use Rattle.limits.specs.Events.{Event}
-use Rattle.limits.specs.Questions.{Question, first_no}
-use Rattle.limits.proofs.Laws.Promise.{changed-refused, changed-handed_on, changed-as}
+use Rattle.limits.specs.Questions.{pick, Question, first_no}
+use Rattle.limits.proofs.Laws.Choice.{pick_yes, pick_no}
+use Rattle.limits.proofs.Laws.Promise.{refusal-not-0, changed-refused, changed-handed_on, changed-as}
 use Rattle.mat.specs.View.{mat_of}
 use Rattle.events.specs.declared.Link.{Link}
 use Rattle.events.specs.declared.Counts.{Counts}
-use Rattle.events.specs.State.{Moved, no_counts}
+use Rattle.events.specs.State.{Moved, no_counts, risen, unmoved}
 use Rattle.events.specs.View.{link_state, sound_link, LinkCall, Moves}
 
 module _ (qs : List Question) (moved : Moved) (k k' : Link) where
@@ -48,3 +51,12 @@ same-marks k oldest marks e = λ i. record { limits = k.limits; mat = mat_of k.m
 pub moves-as : (k : Link) (supply before after : List ℕ) (e e' : Event) (k' : Link) (r : Result Counts Refusal) → e ≡ e'
     → Moves k supply before after e k' r → Moves k supply before after e' k' r
 moves-as k supply before after e e' k' r q m = rw (← q) m
+
+-- what a call shows that puts these questions, done or refused
+pub shows : (qs : List Question) (moved : Moved) (k : Link) (before : List ℕ) (k' : Link) (after : List ℕ) (r : Result Counts Refusal)
+    → LinkCall qs moved k before k' after r
+    → record { state = link_state k'; counts = risen r; buffer = after } ≡ pick (eqb (first_no qs) 0) moved (unmoved (link_state k) before)
+shows qs moved k before k' after (Ok n) m =
+    (λ i. record { state = (m.left i).0; counts = m.answered.value i; buffer = (m.left i).1 }) ∙ sym (pick_yes _ _ _ _ (eq-eqb _ _ (sym m.answered.number)) refl)
+shows qs moved k before k' after (Err x) m =
+    (λ i. unmoved (link_state (m.kept i).0) (m.kept i).1) ∙ sym (pick_no _ _ _ _ (ap (λ n. eqb n 0) (sym m.answered.number) ∙ refusal-not-0 x) refl)

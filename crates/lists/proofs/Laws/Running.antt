@@ -8,10 +8,10 @@ use lib.Dec.{eqb}
 use lib.ListN.{length, take, drop, get_or, set, length-append, length-drop, length-set, take-append-drop, drop_of_length-le}
 use lib.Seq.{get_or-set_same, drop-cons, take-suc-set, drop-set-lt, drop-drop, length-take-le, take_all}
 use native.Mathlib.Numerals.{add-one}
-use borrow.Author.Tests.{eqb-false, eq-eqb}
+use borrow.Author.Tests.{eqb-false}
 use Rattle.limits.specs.Answer.{number_of}
 use Rattle.limits.specs.Lists.{all}
-use Rattle.limits.proofs.Laws.Choice.{pick_yes, pick_no, test, clash, and_left, and_right}
+use Rattle.limits.proofs.Laws.Choice.{test, clash, and_left, and_right}
 use Rattle.limits.proofs.Laws.Lists.{length-tab, all_append}
 use Rattle.limits.specs.Events.{Event, event, events}
 use Rattle.mat.specs.Window.{Kept, outstanding}
@@ -19,7 +19,6 @@ use Rattle.mat.specs.View.{outstanding_of, mark_at, cells_at, mat_state}
 use Rattle.mat.proofs.Laws.Sound.{facts}
 use Rattle.std.specs.Prelude.{Result, Ok, Err}
 use Rattle.limits.specs.declared.answer.Refusal.{Refusal}
-use Rattle.limits.proofs.Laws.Promise.{refusal-not-0}
 use Rattle.events.specs.declared.Link.{Link}
 use Rattle.events.specs.declared.LentLink.{LentLink}
 use Rattle.events.specs.Lent.{StaysLent}
@@ -30,7 +29,7 @@ use Rattle.lists.specs.Runs.{continued, next, after_all, answers}
 use Rattle.events.specs.View.{link_state, sound_link, Moves}
 use Rattle.lists.specs.View.{refuses, running}
 use Rattle.events.proofs.Laws.Parts.{parts}
-use Rattle.events.proofs.Laws.Ends.{zeros}
+use Rattle.events.proofs.Laws.Ends.{zeros, shows}
 use Rattle.std.specs.Result.{ResultUnwrapsOrElse}
 use Rattle.lists.proofs.Laws.Rises.{rises-of}
 
@@ -88,10 +87,7 @@ not-zero n e = test (eqb n 0) (λ q. absurd (clash (refuses n) e (ap not q))) (�
 stepped-is : (k : Link) (supply before after : List ℕ) (e : Event) (k' : Link) (r : Result Counts Refusal) → Moves k supply before after e k' r
     → reached k' (risen r) after ≡ stepped supply before (link_state k) e
 unfolding stepped
-stepped-is k supply before after e k' (Ok n) m =
-    (λ i. record { state = (m.left i).0; counts = m.answered.value i; buffer = (m.left i).1 }) ∙ sym (pick_yes _ _ _ _ (eq-eqb _ _ (sym m.answered.number)) refl)
-stepped-is k supply before after e k' (Err x) m =
-    (λ i. unmoved (link_state (m.kept i).0) (m.kept i).1) ∙ sym (pick_no _ _ _ _ (ap (λ n. eqb n 0) (sym m.answered.number) ∙ refusal-not-0 x) refl)
+stepped-is k supply before after e k' r m = shows _ _ k before k' after r m
 
 refused-stays : (k : Link) (supply before after : List ℕ) (e : Event) (k' : Link) (r : Result Counts Refusal) → Moves k supply before after e k' r
     → eqb (number_of r) 0 ≡ false → k' ≡ k

@@ -2,8 +2,8 @@ use mathlib.Core.Path.{refl}
 use Rattle.ride.proofs.Laws.Rode.{rode-unopened, rode-run}
 use Rattle.ride.proofs.ride.Goals as goal
 
-pub returns-in-Err : goal.returns-in-Err
-returns-in-Err c = rode-unopened _ _ _ _ _ _ _ (rw c.in-Err.is at c.open.ensures) refl refl
+pub returns-in_err-fresh : goal.returns-in_err-fresh
+returns-in_err-fresh c = rode-unopened _ _ _ _ _ c.from_residual.result _ c.in_err-fresh.ensures c.from_residual.ensures.1
 
 pub returns : goal.returns
-returns c = rode-run _ _ _ _ _ _ (rw c.in-Ok.is at c.open.ensures) _ _ _ c.run-progress.ensures _ refl refl
+returns c = rode-run _ _ _ _ _ _ c.in_ok-fresh.ensures _ _ _ _ c.run.ensures

@@ -11,18 +11,19 @@ use Rattle.limits.specs.declared.answer.Refusal.TheVariants.{Unsound, PartialRow
 use Rattle.std.specs.Prelude.{Result, Ok, Err}
 use Rattle.std.specs.Result.{IsErrAnd}
 use Rattle.limits.specs.Answer.{refusal_number}
-use Rattle.limits.specs.Questions.{Question, ask, first_no}
+use Rattle.limits.specs.Questions.{pick, Question, ask, first_no}
 use Rattle.limits.specs.Lists.{all}
 use Rattle.limits.specs.Events.{event}
 use Rattle.limits.proofs.Laws.Choice.{pick_yes, pick_no}
-use Rattle.limits.proofs.Laws.Promise.{changed-handed_on}
+use Rattle.limits.proofs.Laws.Promise.{refusal-not-0, changed-handed_on}
 use Rattle.limits.proofs.Laws.Questions.{each}
 use Rattle.events.specs.declared.Link.{Link}
 use Rattle.events.specs.declared.Counts.{Counts}
+use Rattle.events.specs.State.{risen, unmoved}
 use Rattle.events.specs.Rules.{questions}
 use Rattle.events.specs.View.{link_state, sound_link, Moves}
 use Rattle.lists.specs.View.{Run, refuses, running}
-use Rattle.runs.specs.View.{Stepped, Ran, whole_rows, lent_asks, lent_questions}
+use Rattle.runs.specs.View.{Stepped, RunCall, Ran, whole_rows, lent_asks, lent_questions}
 use Rattle.events.proofs.Laws.Ends.{refused, call-as}
 
 -- a question that is answered no, and one that is passed, in front of others
@@ -88,6 +89,19 @@ module _ (k : Link) (bytes supply before answers : List ℕ) where
               };
           still = same;
         }
+
+-- what a run shows, done or refused
+pub run-shows : (done : Run) (k : Link) (bytes supply before answers_before : List ℕ) (k' : Link) (after answers_after : List ℕ) (r : Result Counts Refusal)
+    → RunCall done k bytes supply before answers_before k' after answers_after r
+    → record { moved = record { state = link_state k'; counts = risen r; buffer = after }; answers = answers_after }
+    ≡ pick (eqb (first_no (ask 4 (sound_link k) ∷ lent_questions bytes supply answers_before)) 0) done
+    (record { moved = unmoved (link_state k) before; answers = answers_before })
+run-shows done k bytes supply before answers_before k' after answers_after (Ok n) c =
+    (λ i. record { moved = record { state = (c.left i).0; counts = c.answered.value i; buffer = (c.left i).1 }; answers = (c.left i).2 })
+    ∙ sym (pick_yes _ _ _ _ (eq-eqb _ _ (sym c.answered.number)) refl)
+run-shows done k bytes supply before answers_before k' after answers_after (Err x) c =
+    (λ i. record { moved = unmoved (link_state (c.kept i).0) (c.kept i).1; answers = (c.kept i).2 })
+    ∙ sym (pick_no _ _ _ _ (ap (λ n. eqb n 0) (sym c.answered.number) ∙ refusal-not-0 x) refl)
 
 -- 5, 6 and 7, one after the other
 module _ (bytes supply answers : ℕ) where
