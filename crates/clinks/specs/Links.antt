@@ -1,10 +1,14 @@
 -- A link as C keeps it: a head of ten numbers, and eight arrays. A mark is a number: off for 0, on for anything else.
-use Rattle.std.specs.Prelude.{ℕ, Bool, not, List, [], ◌∷◌, map, eqb, get_or}
+use Rattle.std.specs.Prelude.{ℕ, ◌<◌, ◌≡◌, Bool, not, List, [], ◌∷◌, map, eqb, get_or}
 use Rattle.limits.specs.declared.Limits.{Limits}
 use Rattle.limits.specs.Questions.{pick}
 use Rattle.events.specs.declared.Link.{Link}
-use Rattle.events.specs.declared.moves.Numbers.{Numbers}
-use Rattle.events.specs.Lent.{arrays, link_of, numbers_of}
+use Rattle.events.specs.declared.Numbers.{Numbers}
+use Rattle.mat.specs.View.{mat_of}
+use Rattle.pad.specs.View.{pad_of}
+use Rattle.air.specs.Data.{data_table}
+use Rattle.air.specs.Replies.{reply_table}
+use Rattle.clinks.specs.declared.LentCLink.{LentCLink}
 
 pub record CLink : Type 0 where
   pub head : List ℕ
@@ -31,6 +35,20 @@ clink head matmark mattimer matcell padmark padtimer padcell datas replies =
       replies = replies;
     }
 
+-- what is lent, by its contents
+abbrev pub clink_of : LentCLink → CLink
+clink_of s =
+    clink s.head.now s.matmark.now s.mattimer.now s.matcell.now s.padmark.now s.padtimer.now s.padcell.now s.datas.now s.replies.now
+
+-- A call leaves lent what was lent to it, so that whoever lent it finds what was written.
+abbrev pub StaysLent : LentCLink → LentCLink → Type 0
+StaysLent a b =
+    (b.head.ghost_name ≡ a.head.ghost_name)
+    × (b.matmark.ghost_name ≡ a.matmark.ghost_name) × (b.mattimer.ghost_name ≡ a.mattimer.ghost_name)
+    × (b.matcell.ghost_name ≡ a.matcell.ghost_name) × (b.padmark.ghost_name ≡ a.padmark.ghost_name)
+    × (b.padtimer.ghost_name ≡ a.padtimer.ghost_name) × (b.padcell.ghost_name ≡ a.padcell.ghost_name)
+    × (b.datas.ghost_name ≡ a.datas.ghost_name) × (b.replies.ghost_name ≡ a.replies.ghost_name)
+
 abbrev pub is_on : ℕ → Bool
 is_on x = not (eqb x 0)
 
@@ -49,11 +67,35 @@ abbrev pub head_of : Limits → Numbers → List ℕ
 head_of l n =
     l.window ∷ l.datalife ∷ l.replylife ∷ l.replywait ∷ l.resendwait ∷ n.oldest ∷ n.next ∷ n.wanted ∷ n.datas ∷ n.replies ∷ []
 
+-- the link of its limits, its numbers and its arrays
+abbrev pub link_of : Limits → Numbers → List Bool → List ℕ → List ℕ → List Bool → List ℕ → List ℕ → List ℕ → List ℕ → Link
+link_of l n marks mattimers matcells held padtimers padcells datas replies =
+    record {
+      limits = l;
+      mat = mat_of n.oldest n.next marks mattimers matcells;
+      pad = pad_of n.wanted held padtimers padcells;
+      datas = data_table n.datas datas;
+      replies = reply_table n.replies replies;
+    }
+
+-- what is kept with another head and other marks
+abbrev pub written : CLink → Limits → Numbers → List Bool → List Bool → CLink
+written s l n marks held =
+    clink (head_of l n) (map bit marks) s.mattimer s.matcell (map bit held) s.padtimer s.padcell s.datas s.replies
+
+-- the window and the numbers are no longer than numbers of C
+abbrev pub numbers_fit : Limits → Numbers → Type 0
+numbers_fit l n =
+    (l.window < 65536) × (n.oldest < 65536) × (n.next < 65536) × (n.wanted < 65536) × (n.datas < 65536) × (n.replies < 65536)
+
 -- the link that is kept
 abbrev pub link_at : CLink → Link
 link_at s =
-    link_of (limits_at s.head) (numbers_at s.head)
-    (arrays (map is_on s.matmark) s.mattimer s.matcell (map is_on s.padmark) s.padtimer s.padcell s.datas s.replies)
+    link_of (limits_at s.head) (numbers_at s.head) (map is_on s.matmark) s.mattimer s.matcell (map is_on s.padmark) s.padtimer s.padcell s.datas s.replies
+
+abbrev pub numbers_of : Link → Numbers
+numbers_of k =
+    record { oldest = k.mat.oldest; next = k.mat.next; wanted = k.pad.wanted; datas = k.datas.count; replies = k.replies.count }
 
 -- how a link is stored
 abbrev pub stored : Link → CLink

@@ -2,12 +2,26 @@
 // and marks, which are numbers in C, as bools.
 #![tactic(auto)]
 
-ghost use Rattle.std.specs.Prelude.{◌≡◌, map, ◌<◌};
-ghost use Rattle.clinks.specs.Links.{is_on, bit, limits_at, numbers_at, head_of};
+ghost use Rattle.std.specs.Prelude.{◌≡◌, map};
+ghost use Rattle.clinks.specs.Links.{is_on, bit, limits_at, numbers_at, head_of, numbers_fit};
 
-use events::moves::Numbers;
+use events::Numbers;
 use limits::Limits;
 use std::array;
+
+// A link that a program in C lends, in the order of its struct.
+#[derive(Drop)]
+pub struct LentCLink<'a> {
+    pub head: &'a mut [u16; 10],
+    pub matmark: &'a mut [u16; 32],
+    pub mattimer: &'a mut [u16; 32],
+    pub matcell: &'a mut [u16; 512],
+    pub padmark: &'a mut [u16; 32],
+    pub padtimer: &'a mut [u16; 32],
+    pub padcell: &'a mut [u16; 512],
+    pub datas: &'a mut [u16; 576],
+    pub replies: &'a mut [u16; 96],
+}
 
 pub fn marks_of(xs: [u16; 32]) -> [bool; 32]
     ensures { result ≡ map is_on xs }
@@ -48,7 +62,7 @@ pub fn numbers_of(h: [u16; 10]) -> Numbers
 }
 
 pub fn head_of(l: Limits, n: Numbers) -> [u16; 10]
-    requires { (l.window < 65536) × (n.oldest < 65536) × (n.next < 65536) × (n.wanted < 65536) × (n.datas < 65536) × (n.replies < 65536) }
+    requires { numbers_fit l n }
     ensures { result ≡ head_of l n }
 {
     [

@@ -11,7 +11,9 @@ use Rattle.limits.specs.Questions.{pick, first_no}
 use Rattle.limits.specs.Limits.{between, times_fit, wait_fits, least_wait, window_fits, limits_questions}
 use Rattle.limits.proofs.Laws.Choice.{pick_yes, pick_no, split, test, three, and_right, and-no-right}
 use Rattle.events.specs.declared.Link.{Link}
-use Rattle.events.specs.declared.Progress.{Progress}
+use Rattle.std.specs.Prelude.{Result}
+use Rattle.limits.specs.declared.answer.Refusal.{Refusal}
+use Rattle.events.specs.declared.Counts.{Counts}
 use Rattle.agreement.specs.Calls.{Line, following, Chain}
 use Rattle.clinks.specs.Links.{CLink, link_at, stored}
 use Rattle.exports.specs.Calls.{capped, asked, Leaves, CCall, CChain}
@@ -23,7 +25,8 @@ pub stored-loads : (k : Link) → link_at (stored k) ≡ k
 stored-loads = stored_back
 
 -- What a call leaves is the link that it gave: the next call from C works on it.
-pub left-loads : (p : Progress) (before after : CLink) (counts : List ℕ) (r : ℕ) → Leaves p before after counts r → link_at after ≡ p.link
+pub left-loads : (k : Link) (answer : Result Counts Refusal) (before after : CLink) (counts : List ℕ) (r : ℕ) → Leaves k answer before after counts r
+    → link_at after ≡ k
 left-loads = left-link
 
 -- A list of calls from C is a list of runs and single events, each on the link that came out of the one before it: demand 3
@@ -32,7 +35,7 @@ pub chain : (supply : List ℕ) (x : Line) (s : CLink) (cs : List CCall) → lin
     → Chain supply x (map (λ (c : CCall). c.made) cs)
 chain supply x s [] e h = tt
 chain supply x s (c ∷ cs) e h =
-    (rw e at h.0, chain supply (following x c.made) c.left cs (left-loads c.made.result s c.left c.counts c.number h.1) h.2)
+    (rw e at h.0, chain supply (following x c.made) c.left cs (left-loads c.made.link c.made.result s c.left c.counts c.number h.1) h.2)
 
 capped-low : (x : ℕ) → x ≤ 65535 → capped x ≡ x
 unfolding capped

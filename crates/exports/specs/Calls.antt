@@ -7,11 +7,10 @@ use Rattle.limits.specs.Answer.{number_of}
 use Rattle.limits.specs.Limits.{zero_limits}
 use Rattle.limits.specs.Questions.{pick}
 use Rattle.events.specs.declared.Counts.{Counts}
-use Rattle.events.specs.declared.Progress.{Progress}
+use Rattle.events.specs.State.{risen}
 use Rattle.runs.specs.View.{Stepped, Ran}
 use Rattle.link.specs.View.{fresh_link, Opened}
 use Rattle.agreement.specs.Calls.{Made, Line, following, Met}
-use Rattle.ride.specs.declared.Outcome.{Outcome}
 use Rattle.ride.specs.Ride.{Rode}
 use Rattle.clinks.specs.Links.{CLink, link_at, stored}
 
@@ -47,18 +46,20 @@ pub record OpenCall (l : Limits) (after : CLink) (r : ℕ) : Type 0 where
 abbrev pub counts_list : Counts → List ℕ
 counts_list n = n.sent ∷ n.acknowledged ∷ n.recorded ∷ []
 
--- What a call leaves that gave `p`: the counts, and where it was done the new link; where it was refused everything is as before.
-pub record Leaves (p : Progress) (before after : CLink) (counts : List ℕ) (r : ℕ) : Type 0 where
-  pub number : r ≡ number_of p.answer
-  pub told : counts ≡ counts_list p.counts
-  pub done : r ≡ 0 → after ≡ stored p.link
-  pub kept : (r ≡ 0 → ⊥) → (after ≡ before) × (p.link ≡ link_at before)
+-- What a call leaves of a link in C whose answer was `answer` and whose link `k`: the counts, and where it was done the new link;
+-- where it was refused everything is as before.
+pub record Leaves (k : Link) (answer : Result Counts Refusal) (before after : CLink) (counts : List ℕ) (r : ℕ) : Type 0 where
+  pub number : r ≡ number_of answer
+  pub told : counts ≡ counts_list (risen answer)
+  pub done : r ≡ 0 → after ≡ stored k
+  pub kept : (r ≡ 0 → ⊥) → (after ≡ before) × (k ≡ link_at before)
 
 -- A call in place gives what the link's own call promises of the link that is kept.
-pub record InPlace (call : Progress → Type 0) (before after : CLink) (counts : List ℕ) (r : ℕ) : Type 0 where
-  pub progress : Progress
-  pub promise : call progress
-  pub leaves : Leaves progress before after counts r
+pub record InPlace (call : Link → Result Counts Refusal → Type 0) (before after : CLink) (counts : List ℕ) (r : ℕ) : Type 0 where
+  pub link : Link
+  pub answer : Result Counts Refusal
+  pub promise : call link answer
+  pub leaves : Leaves link answer before after counts r
 
 -- An event is two bytes. A kind or an argument that is no byte makes it an unknown event: 8.
 unfoldable pub kind_of : ℕ → ℕ → ℕ
@@ -74,10 +75,10 @@ RunCall events supply buffer buffer' answers answers' before after counts r =
 
 -- a ride by ride's own promise
 pub record RideCall (l : Limits) (events supply buffer buffer' answers answers' counts : List ℕ) (r : ℕ) : Type 0 where
-  pub outcome : Outcome
-  pub promise : Rode l events supply buffer buffer' answers answers' outcome
-  pub number : r ≡ number_of outcome.answer
-  pub told : counts ≡ counts_list outcome.counts
+  pub answer : Result Counts Refusal
+  pub promise : Rode l events supply buffer buffer' answers answers' answer
+  pub number : r ≡ number_of answer
+  pub told : counts ≡ counts_list (risen answer)
 
 -- A call from C in a list of them: what was called and what it gave, the link that it left, its counts and its number.
 pub record CCall : Type 0 where
@@ -91,5 +92,5 @@ abbrev pub CChain : List ℕ → Line → CLink → List CCall → Type 0
 CChain supply x s [] = Unit {0}
 CChain supply x s (c ∷ cs) =
     Met (link_at s) (drop (16 * x.counts.sent) supply) (drop (16 * x.counts.recorded) x.buffer) c.made c.made.call
-    × Leaves c.made.result s c.left c.counts c.number
+    × Leaves c.made.link c.made.result s c.left c.counts c.number
     × CChain supply (following x c.made) c.left cs

@@ -1,16 +1,17 @@
-// The link for programs in C, which keep it as ten numbers and eight arrays and lend these to each call. What is lent changes in
-// place; of the state only the marks are copied, which are numbers in C.
+// The calls for programs in C, which keep a link as ten numbers and eight arrays and lend these to each call. What is lent changes
+// in place; of the state only the marks are copied, which are numbers in C.
 #![tactic(auto)]
 
 ghost use Rattle.std.specs.Prelude.{◌≡◌};
-ghost use Rattle.clinks.specs.Links.{clink};
+ghost use Rattle.limits.specs.Answer.{number_of};
+ghost use Rattle.events.specs.State.{risen};
+ghost use Rattle.clinks.specs.Links.{clink_of, StaysLent, numbers_fit, written};
 ghost use Rattle.exports.specs.Calls.{capped, asked, limits_or_zeros, kind_of, counts_list, OpenCall, StepCall, RunCall, RideCall};
 
-pub mod cframe;
 pub mod cpage;
 
-use events::Counts;
-use events::moves::Numbers;
+use clinks::LentCLink;
+use events::{Counts, LentLink, Numbers};
 use limits::Limits;
 use limits::answer::Refusal;
 
@@ -21,7 +22,7 @@ fn capped_limit(x: u32) -> u16
     u16::try_from(x).unwrap_or(u16::MAX)
 }
 
-fn asked_limits(
+pub fn asked_limits(
     window: u32,
     datalife: u32,
     replylife: u32,
@@ -39,12 +40,6 @@ fn asked_limits(
     }
 }
 
-fn counts_of(n: Counts) -> [usize; 3]
-    ensures { result ≡ counts_list n }
-{
-    [n.sent, n.acknowledged, n.recorded]
-}
-
 fn limits_or_zeros(opening: Result<Limits, Refusal>) -> Limits
     ensures { result ≡ limits_or_zeros opening }
 {
@@ -52,43 +47,20 @@ fn limits_or_zeros(opening: Result<Limits, Refusal>) -> Limits
 }
 
 // Opens a link: 1, 2, 3. A refusal stores a link of zeros.
-pub fn matlink_lent_open(
-    head: &mut [u16; 10],
-    matmark: &mut [u16; 32],
-    mattimer: &mut [u16; 32],
-    matcell: &mut [u16; 512],
-    padmark: &mut [u16; 32],
-    padtimer: &mut [u16; 32],
-    padcell: &mut [u16; 512],
-    datas: &mut [u16; 576],
-    replies: &mut [u16; 96],
-    window: u32,
-    datalife: u32,
-    replylife: u32,
-    replywait: u32,
-    resendwait: u32,
-) -> u8
-    ensures { OpenCall (asked window datalife replylife replywait resendwait)
-        (clink head.new matmark.new mattimer.new matcell.new
-        padmark.new padtimer.new padcell.new datas.new replies.new) result }
+pub fn open(link: &mut LentCLink<'_>, asked: Limits) -> u8
+    ensures lent { StaysLent link.old link.new }
+    ensures opened { OpenCall asked (clink_of link.new) result }
 {
-    let opening = limits::accept(asked_limits(window, datalife, replylife, replywait, resendwait));
-    let n = Numbers {
-        oldest: 0,
-        next: 0,
-        wanted: 0,
-        datas: 0,
-        replies: 0,
-    };
-    *head = clinks::head_of(limits_or_zeros(opening), n);
-    *matmark = [0; 32];
-    *mattimer = [0; 32];
-    *matcell = [0; 512];
-    *padmark = [0; 32];
-    *padtimer = [0; 32];
-    *padcell = [0; 512];
-    *datas = [0; 576];
-    *replies = [0; 96];
+    let opening = limits::accept(asked);
+    *link.head = clinks::head_of(limits_or_zeros(opening), Numbers::default());
+    *link.matmark = [0; 32];
+    *link.mattimer = [0; 32];
+    *link.matcell = [0; 512];
+    *link.padmark = [0; 32];
+    *link.padtimer = [0; 32];
+    *link.padcell = [0; 512];
+    *link.datas = [0; 576];
+    *link.replies = [0; 96];
     limits::answer::number(&opening)
 }
 
@@ -103,138 +75,117 @@ fn kind_byte(kind: u32, argument: u32) -> u8
     }
 }
 
+// The link that is kept, its arrays lent where they are.
+macro_rules! lend {
+    ($link:expr, $marks:expr, $held:expr) => {
+        LentLink {
+            limits: clinks::limits_of(*$link.head),
+            numbers: clinks::numbers_of(*$link.head),
+            marks: &mut $marks,
+            mattimers: &mut *$link.mattimer,
+            matcells: &mut *$link.matcell,
+            held: &mut $held,
+            padtimers: &mut *$link.padtimer,
+            padcells: &mut *$link.padcell,
+            datas: &mut *$link.datas,
+            replies: &mut *$link.replies,
+        }
+    };
+}
+
+// The numbers and the marks that a call left, where the link keeps them.
+fn write_back(
+    link: &mut LentCLink<'_>,
+    limits: Limits,
+    numbers: Numbers,
+    marks: [bool; 32],
+    held: [bool; 32],
+)
+    requires { numbers_fit limits numbers }
+    ensures lent { StaysLent link.old link.new }
+    ensures kept { clink_of link.new ≡ written (clink_of link.old) limits numbers marks held }
+{
+    *link.head = clinks::head_of(limits, numbers);
+    *link.matmark = clinks::bits_of(marks);
+    *link.padmark = clinks::bits_of(held);
+}
+
+// The counts of an answer, and its number.
+fn told(answer: Result<Counts, Refusal>, counts: &mut [usize; 3]) -> u8
+    ensures { (counts.new ≡ counts_list (risen answer)) × (result ≡ number_of answer) }
+{
+    let n = answer.unwrap_or_default();
+    *counts = [n.sent, n.acknowledged, n.recorded];
+    limits::answer::number(&answer)
+}
+
 // One event: 4, 6, then the event's questions. The counts are written always, the link where the answer is 0.
-pub fn matlink_lent_step(
-    head: &mut [u16; 10],
-    matmark: &mut [u16; 32],
-    mattimer: &mut [u16; 32],
-    matcell: &mut [u16; 512],
-    padmark: &mut [u16; 32],
-    padtimer: &mut [u16; 32],
-    padcell: &mut [u16; 512],
-    datas: &mut [u16; 576],
-    replies: &mut [u16; 96],
+pub fn step(
+    link: &mut LentCLink<'_>,
     kind: u32,
     argument: u32,
     supply: &[u16],
     record: &mut [u16],
     counts: &mut [usize; 3],
 ) -> u8
-    ensures { StepCall kind argument supply.now «record».old «record».new
-        (clink head.old matmark.old mattimer.old matcell.old
-        padmark.old padtimer.old padcell.old datas.old replies.old)
-        (clink head.new matmark.new mattimer.new matcell.new
-        padmark.new padtimer.new padcell.new datas.new replies.new) counts.new result }
+    ensures lent { StaysLent link.old link.new }
+    ensures stepped { StepCall kind argument supply.now «record».old «record».new (clink_of link.old) (clink_of link.new) counts.new result }
 {
-    let h = *head;
-    let l = clinks::limits_of(h);
-    let mut marks = clinks::marks_of(*matmark);
-    let mut held = clinks::marks_of(*padmark);
-    let s = runs::lent_step(
-        l,
-        clinks::numbers_of(h),
-        &mut marks,
-        mattimer,
-        matcell,
-        &mut held,
-        padtimer,
-        padcell,
-        datas,
-        replies,
+    let mut marks = clinks::marks_of(*link.matmark);
+    let mut held = clinks::marks_of(*link.padmark);
+    let mut lent = lend!(link, marks, held);
+    let answer = runs::step(
+        &mut lent,
         kind_byte(kind, argument),
         (argument % 256) as u8,
         supply,
         record,
     );
-    let n = s.counts;
-    *counts = counts_of(n);
-    let answer = s.answer;
-    let Ok(()) = answer else {
-        return limits::answer::number(&answer);
-    };
-    let after = s.numbers;
-    *head = clinks::head_of(l, after);
-    *matmark = clinks::bits_of(marks);
-    *padmark = clinks::bits_of(held);
-    0
+    let LentLink {
+        limits, numbers, ..
+    } = lent;
+    if answer.is_ok() {
+        write_back(link, limits, numbers, marks, held);
+    }
+    told(answer, counts)
 }
 
 // A run: 4, 5, 6, 7. The counts are written always, the link where the answer is 0.
-pub fn matlink_lent_run(
-    head: &mut [u16; 10],
-    matmark: &mut [u16; 32],
-    mattimer: &mut [u16; 32],
-    matcell: &mut [u16; 512],
-    padmark: &mut [u16; 32],
-    padtimer: &mut [u16; 32],
-    padcell: &mut [u16; 512],
-    datas: &mut [u16; 576],
-    replies: &mut [u16; 96],
+pub fn run(
+    link: &mut LentCLink<'_>,
     events: &[u8],
     supply: &[u16],
     record: &mut [u16],
     answers: &mut [u8],
     counts: &mut [usize; 3],
 ) -> u8
-    ensures { RunCall events.now supply.now «record».old «record».new answers.old answers.new
-        (clink head.old matmark.old mattimer.old matcell.old
-        padmark.old padtimer.old padcell.old datas.old replies.old)
-        (clink head.new matmark.new mattimer.new matcell.new
-        padmark.new padtimer.new padcell.new datas.new replies.new) counts.new result }
+    ensures lent { StaysLent link.old link.new }
+    ensures ran { RunCall events.now supply.now «record».old «record».new answers.old answers.new
+        (clink_of link.old) (clink_of link.new) counts.new result }
 {
-    let h = *head;
-    let l = clinks::limits_of(h);
-    let mut marks = clinks::marks_of(*matmark);
-    let mut held = clinks::marks_of(*padmark);
-    let s = runs::lent_run(
-        l,
-        clinks::numbers_of(h),
-        &mut marks,
-        mattimer,
-        matcell,
-        &mut held,
-        padtimer,
-        padcell,
-        datas,
-        replies,
-        events,
-        supply,
-        record,
-        answers,
-    );
-    let n = s.counts;
-    *counts = counts_of(n);
-    let answer = s.answer;
-    let Ok(()) = answer else {
-        return limits::answer::number(&answer);
-    };
-    let after = s.numbers;
-    *head = clinks::head_of(l, after);
-    *matmark = clinks::bits_of(marks);
-    *padmark = clinks::bits_of(held);
-    0
+    let mut marks = clinks::marks_of(*link.matmark);
+    let mut held = clinks::marks_of(*link.padmark);
+    let mut lent = lend!(link, marks, held);
+    let answer = runs::run(&mut lent, events, supply, record, answers);
+    let LentLink {
+        limits, numbers, ..
+    } = lent;
+    if answer.is_ok() {
+        write_back(link, limits, numbers, marks, held);
+    }
+    told(answer, counts)
 }
 
 // A link opened and run from fresh: 1, 2, 3, 5, 6, 7. The counts are written always.
-pub fn matlink_lent_ride(
-    window: u32,
-    datalife: u32,
-    replylife: u32,
-    replywait: u32,
-    resendwait: u32,
+pub fn ride(
+    asked: Limits,
     events: &[u8],
     supply: &[u16],
     record: &mut [u16],
     answers: &mut [u8],
     counts: &mut [usize; 3],
 ) -> u8
-    ensures { RideCall (asked window datalife replylife replywait resendwait) events.now supply.now
-        «record».old «record».new answers.old answers.new counts.new result }
+    ensures { RideCall asked events.now supply.now «record».old «record».new answers.old answers.new counts.new result }
 {
-    let l = asked_limits(window, datalife, replylife, replywait, resendwait);
-    let outcome = ride::ride(l, events, supply, record, answers);
-    let n = outcome.counts;
-    *counts = counts_of(n);
-    let answer = outcome.answer;
-    limits::answer::number(&answer)
+    told(ride::ride(asked, events, supply, record, answers), counts)
 }

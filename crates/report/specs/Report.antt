@@ -1,13 +1,14 @@
 -- The trial's whole output, as text of its input: a refusal, or a line for each event and one for the counts.
-use Rattle.std.specs.Prelude.{ℕ, ◌+◌, ◌*◌, ◌≤◌, List, [], ◌∷◌, ◌++◌, eqb, leb, length, drop, replicate, Result}
+use Rattle.std.specs.Prelude.{ℕ, ◌+◌, ◌*◌, ◌≤◌, List, [], ◌∷◌, ◌++◌, eqb, leb, length, drop, replicate, ◌≡◌, Result, IfOk, OnErr}
 use Rattle.limits.specs.declared.answer.Refusal.{Refusal}
+use Rattle.limits.specs.Answer.{number_of}
 use Rattle.limits.specs.Questions.{pick, Question, ask, first_no}
 use Rattle.unbounded.specs.Ends.{Ends}
 use Rattle.events.specs.declared.Counts.{Counts}
 use Rattle.lines.specs.Input.{readable, limits_of, supply_of, event_bytes}
 use Rattle.lines.specs.Text.{event_lines, counts_line, refused_line}
 use Rattle.ride.specs.Ride.{ride_questions, ends_of, answers_of}
-use Rattle.buffers.specs.Buffers.{writing, WriteCall}
+use Rattle.buffers.specs.Buffers.{writing, Wrote, WriteCall}
 
 -- An output of this length has room for the text of every input: 12 bytes for two of an event, and 40 for the counts.
 abbrev pub output_length : ℕ
@@ -35,6 +36,12 @@ ride_text input =
 
 unfoldable pub text_of : List ℕ → List ℕ
 text_of input = pick (eqb (first_no (trial_questions input)) 0) (ride_text input) (refused_line (first_no (trial_questions input)))
+
+-- What the ride that an input asks for promises: its lines stand at the front of the output. Refused, it writes nothing.
+pub record Ridden (input before after : List ℕ) (r : Result ℕ Refusal) : Type 0 where
+  pub number : number_of r ≡ first_no (trial_questions input)
+  pub lines : IfOk r (λ n. Wrote 0 (ride_text input) before after n)
+  pub kept : OnErr r (after ≡ before)
 
 -- 28, of the output
 abbrev pub output_questions : List ℕ → List Question

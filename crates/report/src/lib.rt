@@ -1,22 +1,13 @@
 // The trial as a function from its input to the text that it prints.
 #![tactic(auto)]
 
-ghost use Rattle.std.specs.Prelude.{◌≡◌, true, ◌≤◌, ◌++◌, length};
-ghost use Rattle.limits.specs.Answer.{number_of};
-ghost use Rattle.lines.specs.Input.{readable};
+ghost use Rattle.std.specs.Prelude.{◌≤◌, ◌++◌, length};
 ghost use Rattle.buffers.specs.Buffers.{Wrote};
-ghost use Rattle.lines.specs.Text.{event_lines, counts_line, refused_line};
-ghost use Rattle.report.specs.Report.{output_length, text_of, Room, Reports};
+ghost use Rattle.lines.specs.Text.{event_lines, counts_line};
+ghost use Rattle.report.specs.Report.{output_length, text_of, Room, Ridden, Reports};
 
 use events::Counts;
 use limits::answer::Refusal;
-
-fn refused(output: &mut [u8], answer: Result<(), Refusal>) -> usize
-    requires { 12 ≤ length output.old }
-    ensures { Wrote 0 (refused_line (number_of answer)) output.old output.new result }
-{
-    lines::text::refused_line(output, 0, limits::answer::number(&answer))
-}
 
 // The lines of the events and that of the counts.
 fn lines_of(output: &mut [u8], events: &[u8], answers: &[u8], counts: Counts) -> usize
@@ -31,40 +22,38 @@ fn lines_of(output: &mut [u8], events: &[u8], answers: &[u8], counts: Counts) ->
     lines::text::counts_line(output, next, sent, acknowledged, recorded)
 }
 
-// The ride that the input asks for, and its text.
-fn ridden(input: &[u8], output: &mut [u8]) -> usize
-    requires { (readable input.now ≡ true) × (output_length ≤ length output.old) }
-    ensures { Wrote 0 (text_of input.now) output.old output.new result }
+// The ride that the input asks for, and its lines: 29, then the questions of the ride.
+fn ridden(input: &[u8], output: &mut [u8]) -> Result<usize, Refusal>
+    requires { output_length ≤ length output.old }
+    ensures { Ridden input.now output.old output.new result }
 {
+    if !lines::input::readable(input) {
+        return Err(Refusal::BadInputLength);
+    }
     let asked = lines::input::limits_of(input);
     let start = lines::input::event_start(input);
     let cells = 16 * lines::input::row_count(input);
     let supply = lines::input::supply_of(input);
     let mut record = [0; 4080];
     let mut answers = [0; 20480];
-    let outcome = ride::ride(
+    let counts = ride::ride(
         asked,
         &input[start..],
         &supply[..cells],
         &mut record[..cells],
         &mut answers,
-    );
-    let answer = outcome.answer;
-    let Ok(()) = answer else {
-        return refused(output, answer);
-    };
-    let counts = outcome.counts;
-    lines_of(output, &input[start..], &answers, counts)
+    )?;
+    Ok(lines_of(output, &input[start..], &answers, counts))
 }
 
 fn text(input: &[u8], output: &mut [u8]) -> usize
     requires { output_length ≤ length output.old }
     ensures { Wrote 0 (text_of input.now) output.old output.new result }
 {
-    if !lines::input::readable(input) {
-        return refused(output, Err(Refusal::BadInputLength));
+    match ridden(input, output) {
+        Ok(count) => count,
+        Err(refusal) => lines::text::refused_line(output, 0, u8::from(refusal)),
     }
-    ridden(input, output)
 }
 
 // What the trial prints for this input, at the front of the output, and how many bytes it has: 28.

@@ -1,10 +1,8 @@
-use mathlib.Core.Path.{sym, ◌∙◌}
-use Rattle.buffers.proofs.Laws.Buffers.{same-wrote}
-use Rattle.report.proofs.Laws.Trial.{unreadable}
+use Rattle.report.proofs.Laws.Trial.{lines-text, refused-text}
 use Rattle.report.proofs.text.Goals as goal
 
-pub ridden-requires : goal.ridden-requires
-ridden-requires c = (sym c.readable.ensures ∙ c.if-not-readable.false, c.requires)
+pub returns-in-Ok : goal.returns-in-Ok
+returns-in-Ok c = lines-text _ _ _ _ c.in-Ok.ensures
 
-pub returns-then-not-readable : goal.returns-then-not-readable
-returns-then-not-readable c = same-wrote _ _ _ _ _ _ (unreadable _ (sym c.readable.ensures ∙ c.if-not-readable.true)) c.refused.ensures
+pub returns-in-Err : goal.returns-in-Err
+returns-in-Err c = refused-text _ _ _ _ _ _ _ c.in-Err.ensures c.from.ensures c.refused_line.ensures
