@@ -1,6 +1,5 @@
 -- A link whose arrays are lent, and events as the enum of them.
-use Rattle.std.specs.Prelude.{ℕ, ◌≡◌, Bool, List, Result, Ok, Err}
-use Rattle.limits.specs.declared.Limits.{Limits}
+use Rattle.std.specs.Prelude.{ℕ, ◌≡◌, List, Result, Ok, Err}
 use Rattle.limits.specs.declared.answer.Refusal.{Refusal}
 use Rattle.limits.specs.Answer.{refusal_number}
 use Rattle.limits.specs.Tables as tables
@@ -12,7 +11,6 @@ use Rattle.air.specs.Data.{data_table}
 use Rattle.air.specs.Replies.{reply_table, reply_messages}
 use Rattle.events.specs.declared.Link.{Link}
 use Rattle.events.specs.declared.LentLink.{LentLink}
-use Rattle.events.specs.declared.Numbers.{Numbers}
 use Rattle.events.specs.declared.Counts.{Counts}
 use Rattle.events.specs.declared.event.Event.{Event}
 use Rattle.events.specs.declared.event.Event.TheVariants.{Send, Resend, ArriveData, Reply, ArriveReply, LoseData, LoseReply, Tick}

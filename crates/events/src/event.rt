@@ -61,7 +61,13 @@ impl LentLink<'_> {
     }
 
     // An event of two bytes: 8, 9, then the questions of its kind.
-    pub fn event(&mut self, kind: u8, argument: u8, supply: &[u16], record: &mut [u16]) -> Result<Counts, Refusal>
+    pub fn event(
+        &mut self,
+        kind: u8,
+        argument: u8,
+        supply: &[u16],
+        record: &mut [u16],
+    ) -> Result<Counts, Refusal>
         requires { sound_link (lent_link self.old) ≡ true }
         ensures lent { StaysLent self.old self.new }
         ensures moves { Moves (lent_link self.old) supply.now «record».old «record».new (event kind argument) (lent_link self.new) result }

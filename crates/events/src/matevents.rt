@@ -23,10 +23,12 @@ impl LentLink<'_> {
         if !lent::room(n.datas) {
             return Err(Refusal::DataTableFull);
         }
-        let number = n.next;
-        self.numbers.next =
-            soundmat::keep(self.limits, number, self.mattimers, self.matcells, row);
-        self.numbers.datas = changes::put(self.limits, n.datas, self.datas, Data { number, row });
+        let data = Data {
+            number: n.next,
+            row,
+        };
+        self.numbers.next = soundmat::keep(self.limits, n.next, self.mattimers, self.matcells, row);
+        self.numbers.datas = changes::put(self.limits, n.datas, self.datas, data);
         Ok(Counts {
             sent: 1,
             ..Counts::default()
@@ -57,8 +59,13 @@ impl LentLink<'_> {
     {
         let n = self.numbers;
         let reply = changes::find::<Reply>(n.replies, self.replies, p)?;
-        let Passed { oldest, passed } =
-            soundmat::acknowledge(self.limits, n.oldest, n.next, self.marks, reply)?;
+        let Passed { oldest, passed } = soundmat::acknowledge(
+            self.limits,
+            n.oldest,
+            n.next,
+            self.marks,
+            reply,
+        )?;
         self.numbers.oldest = oldest;
         self.numbers.replies = changes::remove::<Reply>(n.replies, self.replies, p);
         Ok(Counts {

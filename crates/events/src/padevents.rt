@@ -18,16 +18,15 @@ impl LentLink<'_> {
         ensures lent { StaysLent self.old self.new }
         ensures moves { (b : List ℕ) → OldTaken (lent_link self.old) b p (record { first = number; last = number }) (lent_link self.new) result }
     {
-        let n = self.numbers;
-        if !lent::room(n.replies) {
+        if !lent::room(self.numbers.replies) {
             return Err(Refusal::ReplyTableFull);
         }
         let reply = Reply {
             first: number,
             last: number,
         };
-        self.numbers.replies = changes::put(self.limits, n.replies, self.replies, reply);
-        self.numbers.datas = changes::remove::<Data>(n.datas, self.datas, p);
+        self.numbers.replies = changes::put(self.limits, self.numbers.replies, self.replies, reply);
+        self.numbers.datas = changes::remove::<Data>(self.numbers.datas, self.datas, p);
         Ok(Counts::default())
     }
 

@@ -142,7 +142,9 @@ pub fn step(
         record,
     );
     let LentLink {
-        limits, numbers, ..
+        limits,
+        numbers,
+        ..
     } = lent;
     if answer.is_ok() {
         write_back(link, limits, numbers, marks, held);
@@ -168,7 +170,9 @@ pub fn run(
     let mut lent = lend!(link, marks, held);
     let answer = runs::run(&mut lent, events, supply, record, answers);
     let LentLink {
-        limits, numbers, ..
+        limits,
+        numbers,
+        ..
     } = lent;
     if answer.is_ok() {
         write_back(link, limits, numbers, marks, held);

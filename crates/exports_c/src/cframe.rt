@@ -9,7 +9,7 @@ pub extern "C" fn matlink_lent_read_frame(
 ) -> u8
     ensures { ReadFrame frame.now head.old cells.old head.new cells.new result }
 {
-    exports::cframe::matlink_lent_read_frame(frame, head, cells)
+    cframes::read(frame, head, cells)
 }
 
 #[unsafe(no_mangle)]
@@ -21,5 +21,5 @@ pub extern "C" fn matlink_lent_write_frame(
 ) -> u8
     ensures { WriteFrame head.now cells.now buffer.old buffer.new count.new result }
 {
-    exports::cframe::matlink_lent_write_frame(head, cells, buffer, count)
+    cframes::write(head, cells, buffer, count)
 }

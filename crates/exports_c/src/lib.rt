@@ -1,4 +1,4 @@
-// The static library for C: each function of `exports` under its name, with its contract.
+// The static library for C: each call of `exports`, `cframes` and `page` under its name, with its contract.
 #![tactic(auto)]
 
 ghost use Rattle.clinks.specs.Links.{clink};
@@ -7,6 +7,9 @@ ghost use Rattle.exports.specs.Calls.{asked, OpenCall, StepCall, RunCall, RideCa
 pub mod cframe;
 pub mod cpage;
 
+use clinks::LentCLink;
+
+// Stays (C interface): a program in C hands the parts of its struct over one by one.
 #[unsafe(no_mangle)]
 pub extern "C" fn matlink_lent_open(
     head: &mut [u16; 10],
@@ -28,12 +31,22 @@ pub extern "C" fn matlink_lent_open(
         (clink head.new matmark.new mattimer.new matcell.new
         padmark.new padtimer.new padcell.new datas.new replies.new) result }
 {
-    exports::matlink_lent_open(
-        head, matmark, mattimer, matcell, padmark, padtimer, padcell, datas, replies, window,
-        datalife, replylife, replywait, resendwait,
-    )
+    let asked = exports::asked_limits(window, datalife, replylife, replywait, resendwait);
+    let mut link = LentCLink {
+        head,
+        matmark,
+        mattimer,
+        matcell,
+        padmark,
+        padtimer,
+        padcell,
+        datas,
+        replies,
+    };
+    exports::open(&mut link, asked)
 }
 
+// Stays (C interface): as in `matlink_lent_open`.
 #[unsafe(no_mangle)]
 pub extern "C" fn matlink_lent_step(
     head: &mut [u16; 10],
@@ -57,12 +70,21 @@ pub extern "C" fn matlink_lent_step(
         (clink head.new matmark.new mattimer.new matcell.new
         padmark.new padtimer.new padcell.new datas.new replies.new) counts.new result }
 {
-    exports::matlink_lent_step(
-        head, matmark, mattimer, matcell, padmark, padtimer, padcell, datas, replies, kind,
-        argument, supply, record, counts,
-    )
+    let mut link = LentCLink {
+        head,
+        matmark,
+        mattimer,
+        matcell,
+        padmark,
+        padtimer,
+        padcell,
+        datas,
+        replies,
+    };
+    exports::step(&mut link, kind, argument, supply, record, counts)
 }
 
+// Stays (C interface): as in `matlink_lent_open`.
 #[unsafe(no_mangle)]
 pub extern "C" fn matlink_lent_run(
     head: &mut [u16; 10],
@@ -86,12 +108,21 @@ pub extern "C" fn matlink_lent_run(
         (clink head.new matmark.new mattimer.new matcell.new
         padmark.new padtimer.new padcell.new datas.new replies.new) counts.new result }
 {
-    exports::matlink_lent_run(
-        head, matmark, mattimer, matcell, padmark, padtimer, padcell, datas, replies, events,
-        supply, record, answers, counts,
-    )
+    let mut link = LentCLink {
+        head,
+        matmark,
+        mattimer,
+        matcell,
+        padmark,
+        padtimer,
+        padcell,
+        datas,
+        replies,
+    };
+    exports::run(&mut link, events, supply, record, answers, counts)
 }
 
+// Stays (C interface): the limits are numbers of 32 bits, one by one.
 #[unsafe(no_mangle)]
 pub extern "C" fn matlink_lent_ride(
     window: u32,
@@ -108,7 +139,6 @@ pub extern "C" fn matlink_lent_ride(
     ensures { RideCall (asked window datalife replylife replywait resendwait) events.now supply.now
         «record».old «record».new answers.old answers.new counts.new result }
 {
-    exports::matlink_lent_ride(
-        window, datalife, replylife, replywait, resendwait, events, supply, record, answers, counts,
-    )
+    let asked = exports::asked_limits(window, datalife, replylife, replywait, resendwait);
+    exports::ride(asked, events, supply, record, answers, counts)
 }

@@ -23,10 +23,16 @@ pub fn is_sound(link: &LentLink<'_>) -> bool
     let l = link.limits;
     let n = link.numbers;
     limits::sound_limits(l)
-        && (soundmat::mat_sound(l, n.oldest, n.next, link.marks, link.mattimers, link.matcells)
-            && (soundpad::pad_sound(l, n.wanted, link.held, link.padtimers, link.padcells)
-                && (lent::table_sound::<Data>(l, n.datas, link.datas)
-                    && lent::table_sound::<Reply>(l, n.replies, link.replies))))
+        && (soundmat::mat_sound(
+            l,
+            n.oldest,
+            n.next,
+            link.marks,
+            link.mattimers,
+            link.matcells,
+        ) && (soundpad::pad_sound(l, n.wanted, link.held, link.padtimers, link.padcells)
+            && (lent::table_sound::<Data>(l, n.datas, link.datas)
+                && lent::table_sound::<Reply>(l, n.replies, link.replies))))
 }
 
 // The call for one event: 4, 6, then the event's questions.

@@ -12,7 +12,7 @@ use Rattle.std.specs.Prelude.{Result, Ok, Err}
 use Rattle.std.specs.Result.{is_ok}
 use Rattle.limits.specs.declared.answer.Refusal.{Refusal}
 use Rattle.limits.specs.Answer.{number_of}
-use Rattle.limits.specs.Limits.{limits_questions, accepted, zero_limits}
+use Rattle.limits.specs.Limits.{limits_questions, accepted}
 use Rattle.limits.specs.Questions.{pick, Question, ask, Answered, Changed}
 use Rattle.limits.proofs.Laws.Choice.{test}
 use Rattle.limits.proofs.Laws.Good.{good, accepted-sound}

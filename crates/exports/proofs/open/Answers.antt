@@ -1,6 +1,5 @@
 use mathlib.Core.Path.{◌∙◌, ap}
 use native.Mathlib.Omega.{arith}
-use Rattle.limits.specs.declared.Limits.{Limits}
 use Rattle.events.specs.declared.Numbers.{Numbers}
 use Rattle.clinks.specs.Links.{head_of}
 use Rattle.exports.proofs.Laws.Calls.{opened-small, opened, no_numbers}

@@ -1,17 +1,12 @@
 -- A fresh link, and what an opening promises.
-use mathlib.Core.Path.{◌≡◌, ◌∙◌, ap}
-use mathlib.Core.List.{List}
-use lib.Dec.{eqb}
+use mathlib.Core.Path.{◌≡◌}
 use Rattle.limits.specs.declared.Limits.{Limits}
-use Rattle.limits.specs.Questions.{Answer}
-use Rattle.limits.specs.Questions.{Question, first_no, Answers}
 use Rattle.mat.specs.declared.Mat.{Mat}
 use Rattle.mat.specs.View.{fresh_mat}
 use Rattle.pad.specs.declared.Pad.{Pad}
 use Rattle.pad.specs.View.{fresh_pad}
 use Rattle.air.specs.Data.{DataTable, empty_data}
 use Rattle.air.specs.Replies.{ReplyTable, empty_replies}
-use Rattle.limits.proofs.Laws.Choice.{pick_under}
 use Rattle.link.specs.View.{fresh_link}
 
 pub link-fresh : (l : Limits) (m : Mat) (p : Pad) (d : DataTable) (r : ReplyTable) → m ≡ fresh_mat → p ≡ fresh_pad → d ≡ empty_data → r ≡ empty_replies

@@ -6,7 +6,7 @@ use mathlib.Core.List.{List, [], ◌∷◌, ◌++◌, append_assoc, append-nil}
 use native.Mathlib.Omega.{arith}
 use lib.Dec.{eqb}
 use lib.ListN.{length, take, drop, get_or, set, length-append, length-drop, length-set, take-append-drop, drop_of_length-le}
-use lib.Seq.{get_or-set_same, drop-cons, take-suc-set, drop-set-lt, drop-drop, length-take-le, take_all}
+use lib.Seq.{drop-cons, take-suc-set, drop-set-lt, drop-drop, length-take-le, take_all}
 use native.Mathlib.Numerals.{add-one}
 use borrow.Author.Tests.{eqb-false}
 use Rattle.limits.specs.Answer.{number_of}

@@ -8,9 +8,9 @@ sum-counts-requires c = let g = c.loop-i.invariant.going in let r = room _ _ _ _
 
 pub loop-i-preserved : goal.loop-i-preserved
 loop-i-preserved c = let g = c.loop-i.invariant.going in let r = room _ _ _ _ _ _ _ _ _ _ g c.loop-i-test.true c.requires.1 c.requires.2 in record {
-      lent = lent-on c.args.link.now c.loop-i.link c.event-result.new.self c.loop-i.invariant.lent c.event-result.ensures.lent;
-      going = turn _ _ _ _ _ _ _ _ _ _ g r.event r.answer _ _ _ c.event-result.ensures.moves c.event-result.auto.record c.number.result c.number.ensures _ _ (risen-is c.event-result.result _ c.unwrap_or_default.ensures) c.sum-counts.ensures;
-    }
+  lent = lent-on c.args.link.now c.loop-i.link c.event-result.new.self c.loop-i.invariant.lent c.event-result.ensures.lent;
+  going = turn _ _ _ _ _ _ _ _ _ _ g r.event r.answer _ _ _ c.event-result.ensures.moves c.event-result.auto.record c.number.result c.number.ensures _ _ (risen-is c.event-result.result _ c.unwrap_or_default.ensures) c.sum-counts.ensures;
+}
 
 pub returns-clause-ran : goal.returns-clause-ran
 returns-clause-ran c = finishes _ _ _ _ _ _ _ _ _ _ c.requires.1 (omega (arith, c.loop-i-test.false, c.loop-i.auto.i-end)) (omega (arith, c.requires.2, c.loop-i.invariant.going.same-answers)) c.loop-i.invariant.going

@@ -1,4 +1,3 @@
-use mathlib.Core.Path.{refl}
 use Rattle.ride.proofs.Laws.Rode.{rode-unopened, rode-run}
 use Rattle.ride.proofs.ride.Goals as goal
 

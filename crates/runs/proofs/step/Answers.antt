@@ -9,8 +9,5 @@ returns-then-not-is_sound-clause-stepped c = step-unsound (lent_link c.args.link
 pub returns-then-supply-ne0-clause-stepped : goal.returns-then-supply-ne0-clause-stepped
 returns-then-supply-ne0-clause-stepped c = step_partial (lent_link c.args.link.now) c.args.kind c.args.argument _ _ (sym c.if-not-is_sound.ensures) c.if-supply-ne0.true
 
-pub event-requires : goal.event-requires
-event-requires c = sym c.if-not-is_sound.ensures
-
 pub returns-clause-stepped : goal.returns-clause-stepped
 returns-clause-stepped c = step-asked (lent_link c.args.link.now) c.args.kind c.args.argument _ _ (sym c.if-not-is_sound.ensures) _ _ _ c.if-supply-ne0.false c.event.ensures.moves

@@ -1,4 +1,4 @@
-use mathlib.Core.Path.{refl, sym, ◌∙◌}
+use mathlib.Core.Path.{refl, sym}
 use mathlib.Core.Bool.{not, ◌||◌}
 use mathlib.Core.List.{[], ◌∷◌}
 use lib.Dec.{ltb}

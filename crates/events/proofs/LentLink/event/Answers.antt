@@ -1,8 +1,4 @@
-use mathlib.Core.Path.{refl, sym, ◌∙◌, ap}
-use lib.ListN.{length}
-use Rattle.limits.specs.Questions.{first_no}
-use Rattle.limits.specs.Answer.{number_of}
-use Rattle.events.specs.declared.event.Event.{Event}
+use mathlib.Core.Path.{refl}
 use Rattle.events.specs.View.{link_state}
 use Rattle.events.specs.Lent.{lent_link}
 use Rattle.events.proofs.Laws.Ends.{handed_on, moves-as}

@@ -1,12 +1,11 @@
-use mathlib.Core.Path.{refl, sym, ◌∙◌, ap}
+use mathlib.Core.Path.{refl, sym}
 use native.Mathlib.Omega.{arith}
 use borrow.Author.Tests.{ltb-true}
 use Rattle.std.proofs.Common.{rules}
-use Rattle.limits.specs.Answer.{number_of}
 use Rattle.limits.specs.Lists.{all}
 use Rattle.limits.proofs.Laws.Good.{good}
 use Rattle.limits.proofs.Laws.Messages.{data-sound}
-use Rattle.limits.proofs.Laws.Promise.{refusal-not-0, ok-passed}
+use Rattle.limits.proofs.Laws.Promise.{refusal-not-0}
 use Rattle.limits.proofs.Laws.Questions.{more_stays, more-fails}
 use Rattle.mat.specs.Rules.{send_questions}
 use Rattle.mat.specs.View.{mat_state}
