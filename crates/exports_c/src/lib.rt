@@ -139,6 +139,12 @@ pub extern "C" fn matlink_lent_ride(
     ensures { RideCall (asked window datalife replylife replywait resendwait) events.now supply.now
         «record».old «record».new answers.old answers.new counts.new result }
 {
-    let asked = exports::asked_limits(window, datalife, replylife, replywait, resendwait);
-    exports::ride(asked, events, supply, record, answers, counts)
+    exports::ride(
+        exports::asked_limits(window, datalife, replylife, replywait, resendwait),
+        events,
+        supply,
+        record,
+        answers,
+        counts,
+    )
 }
