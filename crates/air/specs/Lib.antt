@@ -4,3 +4,4 @@ pub mod Laws
 pub mod Tables
 pub mod Data
 pub mod Replies
+pub mod Lent

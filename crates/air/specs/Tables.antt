@@ -5,7 +5,7 @@ use Rattle.limits.specs.declared.answer.Refusal.{Refusal}
 use Rattle.limits.specs.Questions.{Question, Answered, Changed}
 use Rattle.limits.specs.Tables.{Message}
 use Rattle.air.specs.declared.table.Table.{Table}
-use Rattle.air.specs.Forms.{Form, messages_of, sound_table}
+use Rattle.air.specs.Forms.{Form, messages_of, sound_table, Holds}
 
 -- the table of a count and its words
 abbrev pub table_of : {B : Type 0} {n : ℕ} → ℕ → List ℕ → Table B n
@@ -17,6 +17,10 @@ table_messages form t = messages_of form t.count t.words
 -- question 4 of a table
 abbrev pub sound_in : {B : Type 0} {n : ℕ} → Form B → Limits → Table B n → Bool
 sound_in form l t = sound_table form l t.count t.words
+
+-- the table is sound and holds these messages
+abbrev pub HoldsIn : {B : Type 0} {n : ℕ} → Form B → Limits → Table B n → List (Message B) → Type 0
+HoldsIn form l t ms = Holds form l t.count t.words ms
 
 -- what a call on a table promises, where `moved` is the table that its event leaves
 abbrev pub TableCall : {B : Type 0} {n : ℕ} → Form B → Limits → List Question → List (Message B) → Result (Unit {0}) Refusal → Table B n → Table B n → Type 0

@@ -2,7 +2,6 @@
 // is written once, for every message that is `Carried`.
 #![tactic(auto)]
 
-pub mod changes;
 pub mod lent;
 pub mod messages;
 pub mod table;

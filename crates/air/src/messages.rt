@@ -62,17 +62,23 @@ pub trait Carried: Copy {
     ghost width_is: { WIDTH ≡ form.width };
 }
 
-// N words are room for a table's 32 messages.
+// N words are room for a table's 32 messages, and are not too many for a slice.
 pub trait Roomy<const N: usize>: Carried {
     ghost room: { Self.form.width * 32 ≤ N };
+
+    ghost slice: { N * 2 < 2 ^ 63 };
 }
 
 impl Roomy<576> for Data {
     ghost room = { lit≤ tt };
+
+    ghost slice = { lit≤ tt };
 }
 
 impl Roomy<96> for Reply {
     ghost room = { lit≤ tt };
+
+    ghost slice = { lit≤ tt };
 }
 
 impl Carried for Data {

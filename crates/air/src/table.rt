@@ -7,8 +7,9 @@ ghost use Rattle.air.specs.Rules.{room_questions, place_questions};
 ghost use Rattle.air.specs.Forms.{sound_of};
 ghost use Rattle.air.specs.Tables.{table_of, table_messages, sound_in, TableCall, TableReading};
 
+use crate::lent;
+use crate::lent::LentTable;
 use crate::messages::Roomy;
-use crate::{changes, lent};
 use limits::Limits;
 use limits::answer::Refusal;
 use limits::messages::{Data, Message, Reply};
@@ -79,7 +80,7 @@ impl<M: Roomy<N>, const N: usize> Table<M, N> {
         if !self.is_sound_with(l, message) {
             return Err(Refusal::Unsound);
         }
-        if !lent::room(self.count) {
+        if 32 <= self.count {
             return Err(M::full());
         }
         message
@@ -100,7 +101,7 @@ impl<M: Roomy<N>, const N: usize> Table<M, N> {
         if self.count <= p {
             return Err(Refusal::NoMessage);
         }
-        Ok(changes::message_at::<M>(&self.words, p))
+        Ok(lent::message_at::<M>(&self.words, p))
     }
 
     // Message p leaves, and the gap is closed. It is asked for as it is to be read: 4, 17.
@@ -110,7 +111,9 @@ impl<M: Roomy<N>, const N: usize> Table<M, N> {
             (remove p (table_messages M.form self.old)) result self.old self.new }
     {
         self.read(l, p)?;
-        self.count = changes::remove::<M>(self.count, &mut self.words, p);
+        let mut lent = LentTable::<M, N>::of(self.count, &mut self.words);
+        lent.remove(p);
+        self.count = lent.count;
         Ok(())
     }
 
@@ -126,7 +129,9 @@ impl<M: Roomy<N>, const N: usize> Table<M, N> {
         if d == 0 {
             return Err(Refusal::BadArgument);
         }
-        self.count = changes::age::<M>(self.count, &mut self.words, d);
+        let mut lent = LentTable::<M, N>::of(self.count, &mut self.words);
+        lent.age(d);
+        self.count = lent.count;
         Ok(())
     }
 }

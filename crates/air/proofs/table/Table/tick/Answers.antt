@@ -7,7 +7,6 @@ use Rattle.limits.proofs.Laws.Choice.{and_right}
 use Rattle.limits.proofs.Laws.Promise.{sound-first, unsound-first, time-passed, time-refused, changed-refused}
 use Rattle.air.proofs.Laws.Forms.{count-few}
 use Rattle.air.proofs.Laws.Tables.{changed-done}
-use Rattle.std.proofs.Common.{rules}
 use Rattle.air.proofs.table.Table.tick.Goals as goal
 
 pub returns-then-not-is_sound : goal.returns-then-not-is_sound
@@ -20,15 +19,16 @@ returns-then-d-eq0 g c =
     (time-refused c.args.d (let h = c.if-d-eq0.true in omega arith) ∙ sym (sound-first (time_questions c.args.d) _ (sym c.is_sound.ensures ∙ c.if-not-is_sound.false)))
     refl
 
-pub age-self-requires : goal.age-self-requires
-age-self-requires g c =
+pub age-requires : goal.age-requires
+age-requires g c =
     let t = c.args.self.now in
-    (count-few g.M.Carried.form t.count t.words c.args.l (and_right (sound_limits c.args.l) _ (sym c.is_sound.ensures ∙ c.if-not-is_sound.false)), search rules)
+    (omega arith, rw c.of-lent.ensures.count (count-few g.M.Carried.form t.count t.words c.args.l (and_right (sound_limits c.args.l) _ (sym c.is_sound.ensures ∙ c.if-not-is_sound.false))))
 
 pub returns : goal.returns
 returns g c =
     let s = sym c.is_sound.ensures ∙ c.if-not-is_sound.false in
-    let h = c.age-self.ensures c.args.l (and_right (sound_limits c.args.l) _ s) in
+    let h = rw (c.of-lent.ensures.count, c.of-lent.ensures.words) at (c.age.ensures.aged c.args.l) in
+    let k = h (and_right (sound_limits c.args.l) _ s) in
     changed-done _ _ _ _ _ _
     (sound-first (time_questions c.args.d) _ s ∙ sym (time-passed c.args.d (let k = c.if-d-eq0.false in omega arith)))
-    h.1 h.0
+    k.1 k.0

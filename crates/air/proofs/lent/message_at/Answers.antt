@@ -4,7 +4,7 @@ use lib.ListN.{get_or}
 use Rattle.tables.specs.Words.{message_at}
 use Rattle.tables.proofs.Laws.Words.{life-at}
 use Rattle.air.specs.Forms.{entry_at}
-use Rattle.air.proofs.changes.message_at.Goals as goal
+use Rattle.air.proofs.lent.message_at.Goals as goal
 
 pub returns : goal.returns
 returns g c =

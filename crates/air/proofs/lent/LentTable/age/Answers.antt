@@ -1,0 +1,10 @@
+use mathlib.Core.Path.{◌∙◌}
+use Rattle.air.proofs.Laws.Forms.{age-holds}
+use Rattle.air.proofs.lent.LentTable.age.Goals as goal
+
+pub whole_as_slice-age : goal.whole_as_slice-age
+whole_as_slice-age g c = g.M.Roomy.slice
+
+pub returns-clause-aged : goal.returns-clause-aged
+returns-clause-aged g c = λ l s. let t = c.args.self.now in
+    age-holds g.M.Carried.form l t.count t.words.now _ s c.WIDTH.result c.args.d _ (c.WIDTH.ensures ∙ g.met.M.Carried.width_is) c.age-self.ensures

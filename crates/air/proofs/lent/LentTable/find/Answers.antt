@@ -1,0 +1,22 @@
+use mathlib.Core.Path.{◌∙◌, ap}
+use Rattle.limits.specs.Tables.{Message}
+use Rattle.air.specs.Forms.{messages_of}
+use Rattle.air.proofs.Laws.Sound.{place-passed, place-refused}
+use Rattle.air.proofs.Laws.Forms.{length-messages, message-read}
+use Rattle.air.proofs.lent.LentTable.find.Goals as goal
+
+pub returns-then-self-p : goal.returns-then-self-p
+returns-then-self-p g c =
+    let form = g.M.Carried.form in let t = c.args.self.now in
+    record { number = place-refused (messages_of form t.count t.words.now) t.count (length-messages form t.count t.words.now) c.args.p c.if-self-p.true; value = tt }
+
+pub shared_whole_as_slice-message_at : goal.shared_whole_as_slice-message_at
+shared_whole_as_slice-message_at g c = g.M.Roomy.slice
+
+pub returns : goal.returns
+returns g c =
+    let form = g.M.Carried.form in let t = c.args.self.now in
+    record {
+      number = place-passed (messages_of form t.count t.words.now) t.count (length-messages form t.count t.words.now) c.args.p c.if-self-p.false;
+      value = ap (λ (m : Message g.row.M.Denot). m.body) (c.message_at-message.ensures ∙ message-read form t.count t.words.now c.args.p c.if-self-p.false);
+    }
