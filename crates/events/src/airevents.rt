@@ -5,11 +5,7 @@ ghost use Rattle.events.specs.View.{sound_link, Moves};
 ghost use Rattle.events.specs.Lent.{lent_link, StaysLent};
 
 use crate::{Counts, LentLink};
-use air::changes;
 use limits::answer::Refusal;
-use limits::messages::{Data, Reply};
-use mat::soundmat;
-use pad::soundpad;
 
 impl LentLink<'_> {
     // Message p leaves the data table: 17.
@@ -18,10 +14,10 @@ impl LentLink<'_> {
         ensures lent { StaysLent self.old self.new }
         ensures moves { (supply b : List ℕ) → Moves (lent_link self.old) supply b b (lose_data p) (lent_link self.new) result }
     {
-        if self.numbers.datas <= p {
+        if self.datas.count <= p {
             return Err(Refusal::NoMessage);
         }
-        self.numbers.datas = changes::remove::<Data>(self.numbers.datas, self.datas, p);
+        self.datas.remove(p);
         Ok(Counts::default())
     }
 
@@ -31,10 +27,10 @@ impl LentLink<'_> {
         ensures lent { StaysLent self.old self.new }
         ensures moves { (supply b : List ℕ) → Moves (lent_link self.old) supply b b (lose_reply p) (lent_link self.new) result }
     {
-        if self.numbers.replies <= p {
+        if self.replies.count <= p {
             return Err(Refusal::NoMessage);
         }
-        self.numbers.replies = changes::remove::<Reply>(self.numbers.replies, self.replies, p);
+        self.replies.remove(p);
         Ok(Counts::default())
     }
 
@@ -44,10 +40,10 @@ impl LentLink<'_> {
         ensures lent { StaysLent self.old self.new }
         ensures moves { (supply b : List ℕ) → Moves (lent_link self.old) supply b b (tick d) (lent_link self.new) result }
     {
-        soundmat::tick(self.limits, self.mattimers, d);
-        soundpad::tick(self.limits, self.padtimers, d);
-        self.numbers.datas = changes::age::<Data>(self.numbers.datas, self.datas, d);
-        self.numbers.replies = changes::age::<Reply>(self.numbers.replies, self.replies, d);
+        self.mat.tick(self.limits, d);
+        self.pad.tick(self.limits, d);
+        self.datas.age(d);
+        self.replies.age(d);
         Ok(Counts::default())
     }
 }

@@ -5,11 +5,7 @@ ghost use Rattle.events.specs.View.{sound_link, Moves};
 ghost use Rattle.events.specs.Lent.{lent_link, StaysLent};
 
 use crate::{Counts, LentLink};
-use air::{changes, lent};
 use limits::answer::Refusal;
-use limits::messages::{Data, Reply};
-use mat::soundmat;
-use mat::soundmat::Passed;
 
 impl LentLink<'_> {
     // The next row is sent: 10, 11, 12, 13.
@@ -18,17 +14,12 @@ impl LentLink<'_> {
         ensures lent { StaysLent self.old self.new }
         ensures moves { (b : List ℕ) → Moves (lent_link self.old) supply.now b b send (lent_link self.new) result }
     {
-        let n = self.numbers;
-        let row = soundmat::next_row(self.limits, n.oldest, n.next, supply)?;
-        if !lent::room(n.datas) {
+        let row = self.mat.next_row(self.limits, supply)?;
+        if !self.datas.has_room() {
             return Err(Refusal::DataTableFull);
         }
-        let data = Data {
-            number: n.next,
-            row,
-        };
-        self.numbers.next = soundmat::keep(self.limits, n.next, self.mattimers, self.matcells, row);
-        self.numbers.datas = changes::put(self.limits, n.datas, self.datas, data);
+        let data = self.mat.keep(self.limits, row);
+        self.datas.put(self.limits, data);
         Ok(Counts {
             sent: 1,
             ..Counts::default()
@@ -41,13 +32,12 @@ impl LentLink<'_> {
         ensures lent { StaysLent self.old self.new }
         ensures moves { (supply b : List ℕ) → Moves (lent_link self.old) supply b b (resend k) (lent_link self.new) result }
     {
-        let n = self.numbers;
-        let number = soundmat::due(self.limits, n.oldest, n.next, self.marks, self.mattimers, k)?;
-        if !lent::room(n.datas) {
+        let number = self.mat.due(self.limits, k)?;
+        if !self.datas.has_room() {
             return Err(Refusal::DataTableFull);
         }
-        let row = soundmat::again(self.limits, number, self.mattimers, self.matcells);
-        self.numbers.datas = changes::put(self.limits, n.datas, self.datas, Data { number, row });
+        let again = self.mat.again(self.limits, number);
+        self.datas.put(self.limits, again);
         Ok(Counts::default())
     }
 
@@ -57,19 +47,11 @@ impl LentLink<'_> {
         ensures lent { StaysLent self.old self.new }
         ensures moves { (supply b : List ℕ) → Moves (lent_link self.old) supply b b (arrive_reply p) (lent_link self.new) result }
     {
-        let n = self.numbers;
-        let reply = changes::find::<Reply>(n.replies, self.replies, p)?;
-        let Passed { oldest, passed } = soundmat::acknowledge(
-            self.limits,
-            n.oldest,
-            n.next,
-            self.marks,
-            reply,
-        )?;
-        self.numbers.oldest = oldest;
-        self.numbers.replies = changes::remove::<Reply>(n.replies, self.replies, p);
+        let reply = self.replies.find(p)?;
+        let acknowledged = self.mat.acknowledge(self.limits, reply)?;
+        self.replies.remove(p);
         Ok(Counts {
-            acknowledged: passed,
+            acknowledged,
             ..Counts::default()
         })
     }

@@ -6,33 +6,36 @@ ghost use Rattle.events.specs.View.{sound_link};
 ghost use Rattle.runs.specs.View.{Stepped, Ran};
 ghost use Rattle.link.specs.View.{fresh_link, renumbered, Opened};
 
+use air::lent::LentTable;
 use air::table::{DataTable, ReplyTable};
 use events::{Counts, LentLink, Link, Numbers};
 use limits::Limits;
 use limits::answer::Refusal;
 use mat::Mat;
+use mat::lentmat::LentMat;
 use pad::Pad;
+use pad::lentpad::LentPad;
 
 // A link's parts, its arrays lent where they are.
 macro_rules! lend {
     ($k:expr) => {
         LentLink {
             limits: $k.limits,
-            numbers: Numbers {
+            mat: LentMat {
                 oldest: $k.mat.oldest,
                 next: $k.mat.next,
-                wanted: $k.pad.wanted,
-                datas: $k.datas.count,
-                replies: $k.replies.count,
+                marks: &mut $k.mat.marks,
+                timers: &mut $k.mat.timers,
+                cells: &mut $k.mat.cells,
             },
-            marks: &mut $k.mat.marks,
-            mattimers: &mut $k.mat.timers,
-            matcells: &mut $k.mat.cells,
-            held: &mut $k.pad.held,
-            padtimers: &mut $k.pad.timers,
-            padcells: &mut $k.pad.cells,
-            datas: &mut $k.datas.words,
-            replies: &mut $k.replies.words,
+            pad: LentPad {
+                wanted: $k.pad.wanted,
+                held: &mut $k.pad.held,
+                timers: &mut $k.pad.timers,
+                cells: &mut $k.pad.cells,
+            },
+            datas: LentTable::of($k.datas.count, &mut $k.datas.words),
+            replies: LentTable::of($k.replies.count, &mut $k.replies.words),
         }
     };
 }
@@ -88,7 +91,7 @@ pub fn step(
 {
     let mut lent = lend!(k);
     let result = runs::step(&mut lent, kind, argument, supply, record);
-    let numbers = lent.numbers;
+    let numbers = lent.numbers();
     renumber(k, numbers);
     result
 }
@@ -105,7 +108,7 @@ pub fn run(
 {
     let mut lent = lend!(k);
     let result = runs::run(&mut lent, events, supply, record, answers);
-    let numbers = lent.numbers;
+    let numbers = lent.numbers();
     renumber(k, numbers);
     result
 }
