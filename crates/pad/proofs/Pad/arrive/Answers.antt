@@ -1,61 +1,27 @@
+use Rattle.std.proofs.Common.{rules, ◌≡◌, ◌&&◌, [], ◌∷◌, length, MatchResult, ℕ, ◌+◌, ◌-◌, ◌*◌, ◌<◌, ◌≤◌, ◌/◌, ◌%◌, Bool, true, false, nat_eq, nat_lt, List, ◌++◌, slice_index_or, slice_set, bit_and, bit_or, Fits, w8, w32, w64, Bor, MutBor}
+use Rattle.limits.specs.Questions.{ask, Answered, time_questions}
 use Rattle.limits.specs.Limits.{sound_limits}
-use Rattle.limits.specs.Questions.{pick}
-use Rattle.limits.proofs.Laws.Choice.{two, pair-goes-on, pair-stops}
-use Rattle.limits.proofs.Laws.Messages.{message-low, message-legal}
-use Rattle.limits.proofs.Laws.Promise.{changed-sound, changed-unsound}
-use Rattle.pad.specs.View.{sound_pad}
-use Rattle.pad.specs.Rules.{Arrival}
-use Rattle.pad.proofs.Laws.Calls.{arrival-new, arrival-old}
-use Rattle.pad.proofs.Laws.Sound.{facts}
-use Rattle.std.specs.Prelude.{Some, None}
-use borrow.Author.Tests.{ltb-true}
-use mathlib.Core.Path.{sym, ◌∙◌, refl, ap}
+use Rattle.limits.specs.Tables.{sound_data}
+use Rattle.pad.specs.Rules.{arrival, run, run_questions, reply_questions, replying, ticked}
+use Rattle.pad.specs.View.{pad_state, fresh_pad, sound_pad, ArriveCall, ReplyCall, TickCall}
 use Rattle.pad.proofs.Pad.arrive.Goals as goal
 
+-- src/lib.rt:75:13
 pub returns-then-not-is_sound : goal.returns-then-not-is_sound
-returns-then-not-is_sound c = let a = c.args in
-    changed-unsound _ _ _ _ _ _ _ _ (sym (pair-stops (sound_limits a.l) (sound_pad a.l a.self.now) _ _ c.is_sound.ensures c.if-not-is_sound.true) ∙ c.if-not-is_sound.true) refl
+returns-then-not-is_sound c = ?
 
-pub data_sound-requires : goal.data_sound-requires
-data_sound-requires c = (two (sound_limits c.args.l) _ (sym c.is_sound.ensures ∙ c.if-not-is_sound.false)).0
-
+-- src/lib.rt:78:13
 pub returns-then-not-data_sound : goal.returns-then-not-data_sound
-returns-then-not-data_sound c = let a = c.args in
-    changed-unsound _ _ _ _ _ _ _ _
-    (sym (pair-goes-on (sound_limits a.l) (sound_pad a.l a.self.now) _ _ c.is_sound.ensures c.if-not-is_sound.false) ∙ sym c.data_sound.ensures ∙ c.if-not-data_sound.true) refl
+returns-then-not-data_sound c = ?
 
+-- src/lib.rt:81:13
 pub in_window-requires : goal.in_window-requires
-in_window-requires c = let h = two (sound_limits c.args.l) _ (sym c.is_sound.ensures ∙ c.if-not-is_sound.false) in
-    (h.0, (facts _ c.args.self.now h.1).low, message-low _ _ _ (sym c.data_sound.ensures ∙ c.if-not-data_sound.false))
+in_window-requires c = ?
 
+-- src/lib.rt:86:13
 pub returns-then-not-in_window : goal.returns-then-not-in_window
-unfolding pick
-returns-then-not-in_window c = let a = c.args in
-    let e = sym c.data_sound.ensures ∙ c.if-not-data_sound.false in
-    let q = arrival-old a.l a.self.now a.«data» (sym c.in_window.ensures ∙ c.if-not-in_window.true) in
-    changed-sound _ _ _ _ _ _ _ _ _ (sym (pair-goes-on (sound_limits a.l) (sound_pad a.l a.self.now) _ _ c.is_sound.ensures c.if-not-is_sound.false) ∙ e)
-    (record {
-      answered = record { number = refl; value = ap (λ (y : Arrival). pick y.old (Some y.reply) None) (sym q) };
-      left = ap (λ (y : Arrival). y.state) (sym q);
-      kept = tt;
-      stays = λ s. s;
-    })
+returns-then-not-in_window c = ?
 
-pub hold-requires : goal.hold-requires
-hold-requires c =
-    ((two (sound_limits c.args.l) _ (sym c.is_sound.ensures ∙ c.if-not-is_sound.false)).0, message-low _ _ _ (sym c.data_sound.ensures ∙ c.if-not-data_sound.false))
-
+-- src/lib.rt:69:5
 pub returns : goal.returns
-unfolding pick
-returns c = let b = c in let a = b.args in
-    let e = sym b.data_sound.ensures ∙ b.if-not-data_sound.false in
-    let near = sym b.in_window.ensures ∙ b.if-not-in_window.false in
-    let h = c.hold.ensures a.self.now.wanted (two (sound_limits a.l) _ (sym b.is_sound.ensures ∙ b.if-not-is_sound.false)).1 (message-legal _ _ _ e) (ltb-true _ _ near) in
-    let q = arrival-new a.l a.self.now a.«data» _ near h.1 in
-    changed-sound _ _ _ _ _ _ _ _ _ (sym (pair-goes-on (sound_limits a.l) (sound_pad a.l a.self.now) _ _ b.is_sound.ensures b.if-not-is_sound.false) ∙ e)
-    (record {
-      answered = record { number = refl; value = ap (λ (y : Arrival). pick y.old (Some y.reply) None) (sym q) };
-      left = ap (λ (y : Arrival). y.state) (sym q);
-      kept = tt;
-      stays = λ _. h.0;
-    })
+returns c = ?
