@@ -124,8 +124,10 @@ impl LentPad<'_> {
         ensures moves { Shows l (lent_pad self.new) (holding l (pad_state l.window (lent_pad self.old)) «data») }
     {
         let at = ring::slot(l.window, data.number);
-        self.held[at] = true;
-        self.timers[at] = l.replywait;
+        let held = &mut *self.held;
+        let timers = &mut *self.timers;
+        held[at] = true;
+        timers[at] = l.replywait;
         rows::write(self.cells, 16 * at, data.row);
     }
 

@@ -1,27 +1,59 @@
-use Rattle.std.proofs.Common.{rules, ◌≡◌, ◌&&◌, [], ◌∷◌, length, MatchResult, ℕ, ◌+◌, ◌-◌, ◌*◌, ◌<◌, ◌≤◌, ◌/◌, ◌%◌, Bool, true, false, nat_eq, nat_lt, List, ◌++◌, slice_index_or, slice_set, bit_and, bit_or, Fits, w8, w32, w64, Bor, MutBor}
-use Rattle.limits.specs.Questions.{ask, Answered, time_questions}
 use Rattle.limits.specs.Limits.{sound_limits}
-use Rattle.limits.specs.Tables.{sound_data}
-use Rattle.pad.specs.Rules.{arrival, run, run_questions, reply_questions, replying, ticked}
-use Rattle.pad.specs.View.{pad_state, fresh_pad, sound_pad, ArriveCall, ReplyCall, TickCall}
+use Rattle.limits.specs.Questions.{pick}
+use Rattle.limits.proofs.Laws.Choice.{two, pair-goes-on, pair-stops}
+use Rattle.limits.proofs.Laws.Messages.{message-low}
+use Rattle.limits.proofs.Laws.Promise.{changed-sound, changed-unsound}
+use Rattle.pad.specs.View.{pad_state, sound_pad}
+use Rattle.pad.specs.Rules.{Arrival}
+use Rattle.pad.proofs.Laws.Calls.{with-number, arrival-new, arrival-old}
+use Rattle.std.specs.Prelude.{Some, None}
+use borrow.Author.Tests.{ltb-true}
+use mathlib.Core.Path.{sym, ◌∙◌, refl, ap}
 use Rattle.pad.proofs.Pad.arrive.Goals as goal
 
--- src/lib.rt:75:13
 pub returns-then-not-is_sound : goal.returns-then-not-is_sound
-returns-then-not-is_sound c = ?
+returns-then-not-is_sound c = let a = c.args in
+    changed-unsound _ _ _ _ _ _ _ _ (sym (pair-stops (sound_limits a.l) (sound_pad a.l a.self.now) _ _ c.is_sound.ensures c.if-not-is_sound.true) ∙ c.if-not-is_sound.true) refl
 
--- src/lib.rt:78:13
+pub data_sound-requires : goal.data_sound-requires
+data_sound-requires c = (two (sound_limits c.args.l) _ (sym c.is_sound.ensures ∙ c.if-not-is_sound.false)).0
+
 pub returns-then-not-data_sound : goal.returns-then-not-data_sound
-returns-then-not-data_sound c = ?
+returns-then-not-data_sound c = let a = c.args in
+    changed-unsound _ _ _ _ _ _ _ _
+    (sym (pair-goes-on (sound_limits a.l) (sound_pad a.l a.self.now) _ _ c.is_sound.ensures c.if-not-is_sound.false) ∙ sym c.data_sound.ensures ∙ c.if-not-data_sound.true) refl
 
--- src/lib.rt:81:13
 pub in_window-requires : goal.in_window-requires
-in_window-requires c = ?
+in_window-requires c =
+    (two (sound_limits c.args.l) _ (sym c.is_sound.ensures ∙ c.if-not-is_sound.false), message-low _ _ _ (sym c.data_sound.ensures ∙ c.if-not-data_sound.false))
 
--- src/lib.rt:86:13
 pub returns-then-not-in_window : goal.returns-then-not-in_window
-returns-then-not-in_window c = ?
+unfolding pick
+returns-then-not-in_window c = let a = c.args in
+    let e = sym c.data_sound.ensures ∙ c.if-not-data_sound.false in
+    let q = arrival-old a.l a.self.now a.«data» (sym c.in_window.ensures ∙ c.if-not-in_window.true) in
+    changed-sound _ _ _ _ _ _ _ _ _ (sym (pair-goes-on (sound_limits a.l) (sound_pad a.l a.self.now) _ _ c.is_sound.ensures c.if-not-is_sound.false) ∙ e)
+    (record {
+      answered = record { number = refl; value = ap (λ (y : Arrival). pick y.old (Some y.reply) None) (sym q) };
+      left = ap (λ (y : Arrival). y.state) (sym q);
+      kept = tt;
+      stays = λ s. s;
+    })
 
--- src/lib.rt:69:5
+pub hold-requires : goal.hold-requires
+hold-requires c =
+    (two (sound_limits c.args.l) _ (sym c.is_sound.ensures ∙ c.if-not-is_sound.false), sym c.data_sound.ensures ∙ c.if-not-data_sound.false, ltb-true _ _ (sym c.in_window.ensures ∙ c.if-not-in_window.false))
+
 pub returns : goal.returns
-returns c = ?
+unfolding pick pad_state
+returns c = let a = c.args in
+    let h = with-number a.l _ _ _ refl c.hold.ensures.moves in
+    let q = arrival-new a.l a.self.now a.«data» _ (sym c.in_window.ensures ∙ c.if-not-in_window.false) h.1 in
+    changed-sound _ _ _ _ _ _ _ _ _
+    (sym (pair-goes-on (sound_limits a.l) (sound_pad a.l a.self.now) _ _ c.is_sound.ensures c.if-not-is_sound.false) ∙ sym c.data_sound.ensures ∙ c.if-not-data_sound.false)
+    (record {
+      answered = record { number = refl; value = ap (λ (y : Arrival). pick y.old (Some y.reply) None) (sym q) };
+      left = ap (λ (y : Arrival). y.state) (sym q);
+      kept = tt;
+      stays = λ _. h.0;
+    })

@@ -1,27 +1,46 @@
-use Rattle.std.proofs.Common.{rules, ◌≡◌, ◌&&◌, [], ◌∷◌, length, MatchResult, ℕ, ◌+◌, ◌-◌, ◌*◌, ◌<◌, ◌≤◌, ◌/◌, ◌%◌, Bool, true, false, nat_eq, nat_lt, List, ◌++◌, slice_index_or, slice_set, bit_and, bit_or, Fits, w8, w32, w64, Bor, MutBor}
-use Rattle.limits.specs.Questions.{ask, Answered, time_questions}
+use Rattle.limits.specs.declared.answer.Refusal.TheVariants.{RecordFull}
 use Rattle.limits.specs.Limits.{sound_limits}
-use Rattle.limits.specs.Tables.{sound_data}
-use Rattle.pad.specs.Rules.{arrival, run, run_questions, reply_questions, replying, ticked}
-use Rattle.pad.specs.View.{pad_state, fresh_pad, sound_pad, ArriveCall, ReplyCall, TickCall}
+use Rattle.limits.proofs.Laws.Choice.{two}
+use Rattle.limits.proofs.Laws.Promise.{changed-refused, changed-handed_on}
+use Rattle.pad.proofs.Laws.Refused.{run-found, run-refused, reply-full, reply-passes}
+use Rattle.pad.proofs.Laws.Run.{known}
+use Rattle.pad.specs.Rules.{Replying}
+use Rattle.pad.specs.View.{pad_state}
+use mathlib.Core.Path.{refl, ap}
+use native.Mathlib.Omega.{arith}
 use Rattle.pad.proofs.Pad.reply.Goals as goal
 
--- src/lib.rt:114:21
 pub returns-in_err-count-clause-pad : goal.returns-in_err-count-clause-pad
-returns-in_err-count-clause-pad c = ?
+returns-in_err-count-clause-pad c =
+    changed-handed_on _ _ _ _ _ _ _ _ _ c.from_residual.ensures.1 (run-refused (pad_state c.args.l.window c.args.self.now) _ _ _ c.in_err-count.ensures.number) refl
 
--- src/lib.rt:115:27
 pub overflow_mul-count : goal.overflow_mul-count
-overflow_mul-count c = ?
+overflow_mul-count c = let b = c in let a = b.in_ok-count.ensures in
+    let f = run-found (pad_state b.args.l.window b.args.self.now) _ a.number in
+    let h = two (sound_limits b.args.l) _ f.0 in
+    let k = known _ _ h.0 h.1 in
+    omega (arith, a.value)
 
--- src/lib.rt:116:13
 pub returns-then-record-count-clause-pad : goal.returns-then-record-count-clause-pad
-returns-then-record-count-clause-pad c = ?
+returns-then-record-count-clause-pad c = let b = c in let a = b.in_ok-count.ensures in
+    let f = run-found (pad_state b.args.l.window b.args.self.now) _ a.number in
+    changed-refused _ RecordFull _ _ _ _ _ _ (reply-full (pad_state b.args.l.window b.args.self.now) _ _ f.0 f.1 (omega (arith, a.value, c.if-record-count.true))) refl
 
--- src/lib.rt:119:13
 pub record_run-reply-requires : goal.record_run-reply-requires
-record_run-reply-requires c = ?
+record_run-reply-requires c = let b = c in let a = b.in_ok-count.ensures in
+    let f = run-found (pad_state b.args.l.window b.args.self.now) _ a.number in
+    (two (sound_limits b.args.l) _ f.0, omega (arith, a.value, f.1), a.value, omega (arith, c.if-record-count.false))
 
--- src/lib.rt:106:5
 pub returns-clause-pad : goal.returns-clause-pad
-returns-clause-pad c = ?
+returns-clause-pad c = let b = c in let a = b.in_ok-count.ensures in
+    let f = run-found (pad_state b.args.l.window b.args.self.now) _ a.number in
+    let r = c.record_run-reply.ensures.moves in
+    record {
+      answered = record { number = reply-passes (pad_state b.args.l.window b.args.self.now) _ _ f.0 f.1 (omega (arith, a.value, c.if-record-count.false)); value = λ i. record { count = (r.1 i).count; reply = (r.1 i).reply } };
+      left = ap (λ (x : Replying). x.state) r.1;
+      kept = tt;
+      stays = λ _. r.0;
+    }
+
+pub returns-clause-rows : goal.returns-clause-rows
+returns-clause-rows c = ap (λ (x : Replying). x.buffer) c.record_run-reply.ensures.moves.1

@@ -1,15 +1,14 @@
-use Rattle.std.proofs.Common.{rules, ◌≡◌, ◌&&◌, [], ◌∷◌, length, MatchResult, ℕ, ◌+◌, ◌-◌, ◌*◌, ◌<◌, ◌≤◌, ◌/◌, ◌%◌, Bool, true, false, nat_eq, nat_lt, List, ◌++◌, slice_index_or, slice_set, bit_and, bit_or, Fits, w8, w32, w64, Bor, MutBor}
-use Rattle.limits.specs.Questions.{ask, Answered, time_questions}
 use Rattle.limits.specs.Limits.{sound_limits}
-use Rattle.limits.specs.Tables.{sound_data}
-use Rattle.pad.specs.Rules.{arrival, run, run_questions, reply_questions, replying, ticked}
-use Rattle.pad.specs.View.{pad_state, fresh_pad, sound_pad, ArriveCall, ReplyCall, TickCall}
+use Rattle.limits.proofs.Laws.Choice.{two}
+use Rattle.limits.proofs.Laws.Promise.{answered-as, sound-first, unsound-first}
+use Rattle.pad.specs.Rules.{run_questions}
+use Rattle.pad.specs.View.{pad_state}
+use Rattle.pad.proofs.Laws.Sound.{facts}
+use mathlib.Core.Path.{sym, ◌∙◌}
 use Rattle.pad.proofs.Pad.run_length.Goals as goal
 
--- src/lib.rt:99:13
 pub returns-then-not-is_sound : goal.returns-then-not-is_sound
-returns-then-not-is_sound c = ?
+returns-then-not-is_sound c = record { number = unsound-first (run_questions (pad_state c.args.l.window c.args.self.now)) _ (sym c.is_sound.ensures ∙ c.if-not-is_sound.true); value = tt }
 
--- src/lib.rt:93:5
 pub returns : goal.returns
-returns c = ?
+returns c = answered-as _ _ _ _ (sym (sound-first (run_questions (pad_state c.args.l.window c.args.self.now)) _ (sym c.is_sound.ensures ∙ c.if-not-is_sound.false))) c.run_length.ensures

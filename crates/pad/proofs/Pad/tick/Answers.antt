@@ -1,19 +1,29 @@
-use Rattle.std.proofs.Common.{rules, ◌≡◌, ◌&&◌, [], ◌∷◌, length, MatchResult, ℕ, ◌+◌, ◌-◌, ◌*◌, ◌<◌, ◌≤◌, ◌/◌, ◌%◌, Bool, true, false, nat_eq, nat_lt, List, ◌++◌, slice_index_or, slice_set, bit_and, bit_or, Fits, w8, w32, w64, Bor, MutBor}
-use Rattle.limits.specs.Questions.{ask, Answered, time_questions}
+use Rattle.limits.specs.declared.answer.Refusal.TheVariants.{BadArgument}
 use Rattle.limits.specs.Limits.{sound_limits}
-use Rattle.limits.specs.Tables.{sound_data}
-use Rattle.pad.specs.Rules.{arrival, run, run_questions, reply_questions, replying, ticked}
-use Rattle.pad.specs.View.{pad_state, fresh_pad, sound_pad, ArriveCall, ReplyCall, TickCall}
+use Rattle.limits.proofs.Laws.Choice.{two}
+use Rattle.limits.proofs.Laws.Promise.{changed-refused, changed-sound, changed-unsound, time-passed, time-refused}
+use Rattle.pad.proofs.Laws.Calls.{with-number}
+use Rattle.pad.specs.Rules.{ticked}
+use Rattle.pad.specs.View.{pad_state}
+use mathlib.Core.Path.{sym, ◌∙◌, refl}
+use native.Mathlib.Omega.{arith}
 use Rattle.pad.proofs.Pad.tick.Goals as goal
 
--- src/lib.rt:131:13
 pub returns-then-not-is_sound : goal.returns-then-not-is_sound
-returns-then-not-is_sound c = ?
+returns-then-not-is_sound c = changed-unsound _ _ _ _ _ _ _ _ (sym c.is_sound.ensures ∙ c.if-not-is_sound.true) refl
 
--- src/lib.rt:134:13
 pub returns-then-d-eq0 : goal.returns-then-d-eq0
-returns-then-d-eq0 c = ?
+returns-then-d-eq0 c =
+    changed-sound _ _ _ _ _ _ _ _ _ (sym c.is_sound.ensures ∙ c.if-not-is_sound.false)
+    (changed-refused _ BadArgument _ _ _ _ _ _ (time-refused c.args.d (omega arith)) refl)
 
--- src/lib.rt:125:5
 pub returns : goal.returns
-returns c = ?
+unfolding pad_state ticked
+returns c = let t = with-number c.args.l _ _ _ refl c.tick.ensures.moves in
+    changed-sound _ _ _ _ _ _ _ _ _ (sym c.is_sound.ensures ∙ c.if-not-is_sound.false)
+    (record {
+      answered = record { number = time-passed c.args.d (omega arith); value = refl };
+      left = t.1;
+      kept = tt;
+      stays = λ _. t.0;
+    })

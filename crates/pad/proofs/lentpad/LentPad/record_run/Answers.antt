@@ -1,14 +1,15 @@
-use Rattle.std.proofs.Common.{rules, ◌≡◌, Bool, true, false, ◌&&◌, ◌++◌, ◌+◌, ◌*◌, ◌%◌, ◌<◌, ◌≤◌, ltb, length, get_or, drop, IsTrue, ◌↔◌, ℕ, ◌-◌, ◌/◌, nat_eq, List, [], ◌∷◌, slice_set, bit_and, bit_or, Fits, w8, w32, w64, Bor, MutBor}
-use Rattle.limits.specs.Lists.{tab, leading, joined}
-use Rattle.limits.specs.Cells.{row_at, legal_row}
-use Rattle.limits.specs.Questions.{pick, Answered}
-use Rattle.limits.specs.Limits.{sound_limits}
-use Rattle.limits.specs.Tables.{sound_data}
-use Rattle.limits.specs.Ring.{distance}
-use Rattle.pad.specs.Rules.{holding, run, run_questions, replying, ticked}
-use Rattle.pad.specs.View.{pad_of, lent_pad, StaysLent, pad_state, HeldLegal, sound_pad, SoundAt, Shows}
+use Rattle.pad.proofs.Laws.Passing.{passed, run-recorded}
+use Rattle.pad.proofs.Laws.Run.{known}
+use Rattle.pad.specs.declared.Pad.{Pad}
+use Rattle.pad.specs.View.{pad_of, lent_pad}
+use mathlib.Core.Path.{◌≡◌}
+use native.Mathlib.Omega.{arith}
 use Rattle.pad.proofs.lentpad.LentPad.record_run.Goals as goal
 
--- src/lentpad.rt:146:5
 pub returns-clause-moves : goal.returns-clause-moves
-returns-clause-moves c = ?
+returns-clause-moves c = let l = c.args.l in let from = c.slot-from in
+    let p = lent_pad c.args.self.now in
+    let k = known l p c.requires.0.0 c.requires.0.1 in
+    let after : Pad = pad_of c.forward-self.result c.set_span.new.marks p.timers p.cells in
+    let e : after ≡ passed l p from.result c.args.count = rw (c.forward-self.ensures, c.set_span.ensures) in
+    run-recorded l p _ _ k.good from.ensures (omega (arith, k.run-low, c.requires.2)) after e _ _ _ c.forward.ensures c.write_run.ensures c.requires.0.1 c.requires.2

@@ -1,18 +1,16 @@
-use Rattle.std.proofs.Common.{rules, ◌≡◌, Bool, true, false, ◌&&◌, ◌++◌, ◌+◌, ◌*◌, ◌%◌, ◌<◌, ◌≤◌, ltb, length, get_or, drop, IsTrue, ◌↔◌, ℕ, ◌-◌, ◌/◌, nat_eq, List, [], ◌∷◌, slice_set, bit_and, bit_or, Fits, w8, w32, w64, Bor, MutBor}
-use Rattle.limits.specs.Lists.{tab, leading, joined}
-use Rattle.limits.specs.Cells.{row_at, legal_row}
-use Rattle.limits.specs.Questions.{pick, Answered}
-use Rattle.limits.specs.Limits.{sound_limits}
-use Rattle.limits.specs.Tables.{sound_data}
-use Rattle.limits.specs.Ring.{distance}
-use Rattle.pad.specs.Rules.{holding, run, run_questions, replying, ticked}
-use Rattle.pad.specs.View.{pad_of, lent_pad, StaysLent, pad_state, HeldLegal, sound_pad, SoundAt, Shows}
+use Rattle.limits.proofs.Laws.Good.{good}
+use Rattle.pad.proofs.Laws.Run.{run_is}
+use Rattle.pad.proofs.Laws.Refused.{run-passes, run_none}
+use Rattle.pad.specs.View.{lent_pad, pad_state}
+use native.Mathlib.Omega.{arith}
 use Rattle.pad.proofs.lentpad.LentPad.run_length.Goals as goal
 
--- src/lentpad.rt:140:13
 pub returns-then-count-eq0 : goal.returns-then-count-eq0
-returns-then-count-eq0 c = ?
+returns-then-count-eq0 c = let l = c.args.l in let p = lent_pad c.args.self.now in
+    let e = run_is _ p (good l c.requires.0).window-low _ _ c.slot.ensures c.ready_run-count.ensures in
+    record { number = run_none (pad_state l.window p) (omega (arith, e, c.if-count-eq0.true)); value = tt }
 
--- src/lentpad.rt:133:5
 pub returns : goal.returns
-returns c = ?
+returns c = let l = c.args.l in let p = lent_pad c.args.self.now in
+    let e = run_is _ p (good l c.requires.0).window-low _ _ c.slot.ensures c.ready_run-count.ensures in
+    record { number = run-passes (pad_state l.window p) (omega (arith, e, c.if-count-eq0.false)); value = e }
