@@ -9,8 +9,9 @@ ghost use Rattle.limits.specs.Tables.{sound_data};
 ghost use Rattle.pad.specs.Rules.{arrival, run, run_questions, reply_questions, replying, ticked};
 ghost use Rattle.pad.specs.View.{pad_state, fresh_pad, sound_pad, ArriveCall, ReplyCall, TickCall};
 
-pub mod soundpad;
+pub mod lentpad;
 
+use lentpad::LentPad;
 use limits::Limits;
 use limits::answer::Refusal;
 use limits::messages::{Data, Reply};
@@ -32,6 +33,18 @@ pub struct Replied {
     pub reply: Reply,
 }
 
+// A pad's parts, its arrays lent where they are.
+macro_rules! lend {
+    ($p:expr) => {
+        LentPad {
+            wanted: $p.wanted,
+            held: &mut $p.held,
+            timers: &mut $p.timers,
+            cells: &mut $p.cells,
+        }
+    };
+}
+
 impl Pad {
     pub fn fresh() -> Pad
         ensures { result ≡ fresh_pad }
@@ -49,7 +62,7 @@ impl Pad {
         ensures { result ≡ (sound_limits l && sound_pad l self.now) }
     {
         limits::sound_limits(l)
-            && soundpad::pad_sound(l, self.wanted, &self.held, &self.timers, &self.cells)
+            && lentpad::pad_sound(l, self.wanted, &self.held, &self.timers, &self.cells)
     }
 
     // Data arrives: 4. The row is held, or it is an old one and the reply to put for it is given.
@@ -64,14 +77,15 @@ impl Pad {
         if !rows::messages::data_sound(l, data) {
             return Err(Refusal::Unsound);
         }
-        if !soundpad::in_window(l, self.wanted, data.number) {
+        let mut lent = lend!(self);
+        if !lent.in_window(l, data.number) {
             let reply = Reply {
                 first: data.number,
                 last: data.number,
             };
             return Ok(Some(reply));
         }
-        soundpad::hold(l, data, &mut self.held, &mut self.timers, &mut self.cells);
+        lent.hold(l, data);
         Ok(None)
     }
 
@@ -84,7 +98,8 @@ impl Pad {
         if !self.is_sound(l) {
             return Err(Refusal::Unsound);
         }
-        soundpad::run_length(l, self.wanted, &self.held, &self.timers)
+        let mut copy = *self;
+        lend!(copy).run_length(l)
     }
 
     // A reply for the run of rows at wanted, which are written to the record's front: 4, 20, 21.
@@ -100,13 +115,9 @@ impl Pad {
         if record.len() < 16 * count {
             return Err(Refusal::RecordFull);
         }
-        let first = self.wanted;
-        let passed = soundpad::record_run(l, first, &mut self.held, &self.cells, count, record);
-        self.wanted = passed.wanted;
-        let reply = Reply {
-            first,
-            last: passed.last,
-        };
+        let mut lent = lend!(self);
+        let reply = lent.record_run(l, count, record);
+        self.wanted = lent.wanted;
         Ok(Replied { count, reply })
     }
 
@@ -122,7 +133,7 @@ impl Pad {
         if d == 0 {
             return Err(Refusal::BadArgument);
         }
-        soundpad::tick(l, &mut self.timers, d);
+        lend!(self).tick(l, d);
         Ok(())
     }
 }

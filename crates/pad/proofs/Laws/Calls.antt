@@ -1,5 +1,5 @@
--- What an arrival gives, by whether the row is one of the window.
-use Prim.Native.Nat.{◌*◌}
+-- What the pad keeps of its number, and what an arrival gives, by whether the row is one of the window.
+use Prim.Native.Nat.{ℕ, ◌*◌}
 use mathlib.Core.Path.{◌≡◌, refl, sym, ◌∙◌, ap}
 use mathlib.Core.Bool.{true, false}
 use lib.Dec.{ltb}
@@ -10,7 +10,12 @@ use Rattle.limits.proofs.Laws.Choice.{pick_yes, pick_no}
 use Rattle.pad.specs.declared.Pad.{Pad}
 use Rattle.pad.specs.Window.{PadState}
 use Rattle.pad.specs.Rules.{holding, arrival}
-use Rattle.pad.specs.View.{pad_state}
+use Rattle.pad.specs.View.{pad_of, pad_state, Shows}
+
+-- of the pad that was lent, with the number that the state says
+pub with-number : (l : Limits) (wanted : ℕ) (p : Pad) (s : PadState) → wanted ≡ s.wanted → Shows l p s → Shows l (pad_of wanted p.held p.timers p.cells) s
+unfolding pad_state
+with-number l wanted p s e h = rw (e ∙ sym (ap (λ (x : PadState). x.wanted) h.1)) h
 
 module _ (l : Limits) (p : Pad) (x : Data) where
   -- a row of the window, where `held` is what holding it left

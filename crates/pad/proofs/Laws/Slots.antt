@@ -15,7 +15,7 @@ use Rattle.limits.proofs.Laws.Lists.{all-tab, all-tab-at}
 use Rattle.pad.specs.declared.Pad.{Pad}
 use Rattle.pad.specs.Window.{Slot, empty, full, ready, contents}
 use Rattle.pad.specs.Rules.{slot_falls}
-use Rattle.pad.specs.View.{slot_at, sound_slot}
+use Rattle.pad.specs.View.{slot_at, HeldLegal, sound_slot}
 
 -- the lengths of the arrays
 pub record Sized (p : Pad) : Type 0 where
@@ -60,17 +60,16 @@ slot-sound p at =
     (λ e s. ap sound_slot s ∙ sym (pick_no _ _ _ _ e refl))
 
 -- every row held is sound where each place passes, by the arrays
-pub held_sound : (p : Pad) (w : ℕ) (b : Bool) → IsTrue b ↔ ((k : ℕ) → k < w → pick (get_or p.held k false) (legal_row (row_at p.cells k)) true ≡ true)
-    → b ≡ all sound_slot (tab w (slot_at p))
+pub held_sound : (p : Pad) (w : ℕ) (b : Bool) → IsTrue b ↔ HeldLegal w p.held p.cells → b ≡ all sound_slot (tab w (slot_at p))
 held_sound p w true e = sym (all-tab sound_slot w (slot_at p) (λ i h. slot-sound p i ∙ e.0 refl i h))
 held_sound p w false e =
     test (all sound_slot (tab w (slot_at p)))
     (λ t. absurd (clash false (e.1 (λ k h. sym (slot-sound p k) ∙ all-tab-at sound_slot w (slot_at p) t k h)) refl))
     (λ f. sym f)
 
--- where no row is held, every row held is sound
-pub unheld-sound : (p : Pad) (w : ℕ) → w ≤ 32 → ((i : ℕ) → i < 32 → get_or p.held i false ≡ false) → all sound_slot (tab w (slot_at p)) ≡ true
-unheld-sound p w high none = all-tab sound_slot w (slot_at p) (λ i h. ap sound_slot (slot-empty p i (none i (omega arith))))
+-- where no row is held, each place passes
+pub unheld-legal : (w : ℕ) (held : List Bool) (cells : List ℕ) → w ≤ 32 → ((i : ℕ) → i < 32 → get_or held i false ≡ false) → HeldLegal w held cells
+unheld-legal w held cells high none = λ i h. pick_no _ _ _ _ (none i (omega arith)) refl
 
 -- a ready row is held
 pub ready-contents : (p : Pad) (at : ℕ) → ready (slot_at p at) ≡ true → contents (slot_at p at) ≡ row_at p.cells at

@@ -1,12 +1,11 @@
 use Rattle.limits.specs.Limits.{sound_limits}
 use Rattle.limits.specs.Questions.{pick}
 use Rattle.limits.proofs.Laws.Choice.{two, pair-goes-on, pair-stops}
-use Rattle.limits.proofs.Laws.Messages.{message-low, message-legal}
+use Rattle.limits.proofs.Laws.Messages.{message-low}
 use Rattle.limits.proofs.Laws.Promise.{changed-sound, changed-unsound}
-use Rattle.pad.specs.View.{sound_pad}
+use Rattle.pad.specs.View.{pad_state, sound_pad}
 use Rattle.pad.specs.Rules.{Arrival}
-use Rattle.pad.proofs.Laws.Calls.{arrival-new, arrival-old}
-use Rattle.pad.proofs.Laws.Sound.{facts}
+use Rattle.pad.proofs.Laws.Calls.{with-number, arrival-new, arrival-old}
 use Rattle.std.specs.Prelude.{Some, None}
 use borrow.Author.Tests.{ltb-true}
 use mathlib.Core.Path.{sym, ◌∙◌, refl, ap}
@@ -25,8 +24,8 @@ returns-then-not-data_sound c = let a = c.args in
     (sym (pair-goes-on (sound_limits a.l) (sound_pad a.l a.self.now) _ _ c.is_sound.ensures c.if-not-is_sound.false) ∙ sym c.data_sound.ensures ∙ c.if-not-data_sound.true) refl
 
 pub in_window-requires : goal.in_window-requires
-in_window-requires c = let h = two (sound_limits c.args.l) _ (sym c.is_sound.ensures ∙ c.if-not-is_sound.false) in
-    (h.0, (facts _ c.args.self.now h.1).low, message-low _ _ _ (sym c.data_sound.ensures ∙ c.if-not-data_sound.false))
+in_window-requires c =
+    (two (sound_limits c.args.l) _ (sym c.is_sound.ensures ∙ c.if-not-is_sound.false), message-low _ _ _ (sym c.data_sound.ensures ∙ c.if-not-data_sound.false))
 
 pub returns-then-not-in_window : goal.returns-then-not-in_window
 unfolding pick
@@ -43,16 +42,15 @@ returns-then-not-in_window c = let a = c.args in
 
 pub hold-requires : goal.hold-requires
 hold-requires c =
-    ((two (sound_limits c.args.l) _ (sym c.is_sound.ensures ∙ c.if-not-is_sound.false)).0, message-low _ _ _ (sym c.data_sound.ensures ∙ c.if-not-data_sound.false))
+    (two (sound_limits c.args.l) _ (sym c.is_sound.ensures ∙ c.if-not-is_sound.false), sym c.data_sound.ensures ∙ c.if-not-data_sound.false, ltb-true _ _ (sym c.in_window.ensures ∙ c.if-not-in_window.false))
 
 pub returns : goal.returns
-unfolding pick
-returns c = let b = c in let a = b.args in
-    let e = sym b.data_sound.ensures ∙ b.if-not-data_sound.false in
-    let near = sym b.in_window.ensures ∙ b.if-not-in_window.false in
-    let h = c.hold.ensures a.self.now.wanted (two (sound_limits a.l) _ (sym b.is_sound.ensures ∙ b.if-not-is_sound.false)).1 (message-legal _ _ _ e) (ltb-true _ _ near) in
-    let q = arrival-new a.l a.self.now a.«data» _ near h.1 in
-    changed-sound _ _ _ _ _ _ _ _ _ (sym (pair-goes-on (sound_limits a.l) (sound_pad a.l a.self.now) _ _ b.is_sound.ensures b.if-not-is_sound.false) ∙ e)
+unfolding pick pad_state
+returns c = let a = c.args in
+    let h = with-number a.l _ _ _ refl c.hold.ensures.moves in
+    let q = arrival-new a.l a.self.now a.«data» _ (sym c.in_window.ensures ∙ c.if-not-in_window.false) h.1 in
+    changed-sound _ _ _ _ _ _ _ _ _
+    (sym (pair-goes-on (sound_limits a.l) (sound_pad a.l a.self.now) _ _ c.is_sound.ensures c.if-not-is_sound.false) ∙ sym c.data_sound.ensures ∙ c.if-not-data_sound.false)
     (record {
       answered = record { number = refl; value = ap (λ (y : Arrival). pick y.old (Some y.reply) None) (sym q) };
       left = ap (λ (y : Arrival). y.state) (sym q);

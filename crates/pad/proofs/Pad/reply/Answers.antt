@@ -26,18 +26,15 @@ returns-then-record-count-clause-pad c = let b = c in let a = b.in_ok-count.ensu
     let f = run-found (pad_state b.args.l.window b.args.self.now) _ a.number in
     changed-refused _ RecordFull _ _ _ _ _ _ (reply-full (pad_state b.args.l.window b.args.self.now) _ _ f.0 f.1 (omega (arith, a.value, c.if-record-count.true))) refl
 
-pub record_run-passed-requires : goal.record_run-passed-requires
-record_run-passed-requires c = let b = c in let a = b.in_ok-count.ensures in
+pub record_run-reply-requires : goal.record_run-reply-requires
+record_run-reply-requires c = let b = c in let a = b.in_ok-count.ensures in
     let f = run-found (pad_state b.args.l.window b.args.self.now) _ a.number in
-    let h = two (sound_limits b.args.l) _ f.0 in
-    let k = known _ _ h.0 h.1 in
-    (h.0, k.facts.low, omega (arith, a.value), omega (arith, a.value), omega (arith, c.if-record-count.false))
+    (two (sound_limits b.args.l) _ f.0, omega (arith, a.value, f.1), a.value, omega (arith, c.if-record-count.false))
 
 pub returns-clause-pad : goal.returns-clause-pad
 returns-clause-pad c = let b = c in let a = b.in_ok-count.ensures in
     let f = run-found (pad_state b.args.l.window b.args.self.now) _ a.number in
-    let h = two (sound_limits b.args.l) _ f.0 in
-    let r = c.record_run-passed.ensures b.args.self.now.timers h.1 a.value in
+    let r = c.record_run-reply.ensures.moves in
     record {
       answered = record { number = reply-passes (pad_state b.args.l.window b.args.self.now) _ _ f.0 f.1 (omega (arith, a.value, c.if-record-count.false)); value = λ i. record { count = (r.1 i).count; reply = (r.1 i).reply } };
       left = ap (λ (x : Replying). x.state) r.1;
@@ -46,6 +43,4 @@ returns-clause-pad c = let b = c in let a = b.in_ok-count.ensures in
     }
 
 pub returns-clause-rows : goal.returns-clause-rows
-returns-clause-rows c = let b = c in let a = b.in_ok-count.ensures in
-    let h = two (sound_limits b.args.l) _ (run-found (pad_state b.args.l.window b.args.self.now) _ a.number).0 in
-    ap (λ (x : Replying). x.buffer) (c.record_run-passed.ensures b.args.self.now.timers h.1 a.value).1
+returns-clause-rows c = ap (λ (x : Replying). x.buffer) c.record_run-reply.ensures.moves.1

@@ -10,8 +10,5 @@ use Rattle.pad.proofs.Pad.run_length.Goals as goal
 pub returns-then-not-is_sound : goal.returns-then-not-is_sound
 returns-then-not-is_sound c = record { number = unsound-first (run_questions (pad_state c.args.l.window c.args.self.now)) _ (sym c.is_sound.ensures ∙ c.if-not-is_sound.true); value = tt }
 
-pub run_length-requires : goal.run_length-requires
-run_length-requires c = let h = two (sound_limits c.args.l) _ (sym c.is_sound.ensures ∙ c.if-not-is_sound.false) in (h.0, (facts _ c.args.self.now h.1).low)
-
 pub returns : goal.returns
-returns c = answered-as _ _ _ _ (sym (sound-first (run_questions (pad_state c.args.l.window c.args.self.now)) _ (sym c.is_sound.ensures ∙ c.if-not-is_sound.false))) (c.run_length.ensures c.args.self.now.cells)
+returns c = answered-as _ _ _ _ (sym (sound-first (run_questions (pad_state c.args.l.window c.args.self.now)) _ (sym c.is_sound.ensures ∙ c.if-not-is_sound.false))) c.run_length.ensures

@@ -2,6 +2,9 @@ use Rattle.limits.specs.declared.answer.Refusal.TheVariants.{BadArgument}
 use Rattle.limits.specs.Limits.{sound_limits}
 use Rattle.limits.proofs.Laws.Choice.{two}
 use Rattle.limits.proofs.Laws.Promise.{changed-refused, changed-sound, changed-unsound, time-passed, time-refused}
+use Rattle.pad.proofs.Laws.Calls.{with-number}
+use Rattle.pad.specs.Rules.{ticked}
+use Rattle.pad.specs.View.{pad_state}
 use mathlib.Core.Path.{sym, ◌∙◌, refl}
 use native.Mathlib.Omega.{arith}
 use Rattle.pad.proofs.Pad.tick.Goals as goal
@@ -14,13 +17,10 @@ returns-then-d-eq0 c =
     changed-sound _ _ _ _ _ _ _ _ _ (sym c.is_sound.ensures ∙ c.if-not-is_sound.false)
     (changed-refused _ BadArgument _ _ _ _ _ _ (time-refused c.args.d (omega arith)) refl)
 
-pub tick-requires : goal.tick-requires
-tick-requires c = (two (sound_limits c.args.l) _ (sym c.is_sound.ensures ∙ c.if-not-is_sound.false)).0
-
 pub returns : goal.returns
-returns c = let e = sym c.is_sound.ensures ∙ c.if-not-is_sound.false in
-    let t = c.tick.ensures _ _ _ (two (sound_limits c.args.l) _ e).1 in
-    changed-sound _ _ _ _ _ _ _ _ _ e
+unfolding pad_state ticked
+returns c = let t = with-number c.args.l _ _ _ refl c.tick.ensures.moves in
+    changed-sound _ _ _ _ _ _ _ _ _ (sym c.is_sound.ensures ∙ c.if-not-is_sound.false)
     (record {
       answered = record { number = time-passed c.args.d (omega arith); value = refl };
       left = t.1;

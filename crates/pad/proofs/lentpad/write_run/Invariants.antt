@@ -4,7 +4,7 @@ use lib.ListN.{length, drop}
 use mathlib.Core.List.{◌++◌}
 use mathlib.Core.Path.{◌≡◌}
 use Prim.Native.Nat.{◌+◌, ◌*◌, ◌%◌, ◌<◌}
-use Rattle.pad.proofs.soundpad.write_run.Given as goal
+use Rattle.pad.proofs.lentpad.write_run.Given as goal
 
 abbrev pub invariant-loop-k : goal.invariant-loop-k
 invariant-loop-k l = record {

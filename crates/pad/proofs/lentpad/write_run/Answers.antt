@@ -8,7 +8,7 @@ use mathlib.Core.Path.{◌≡◌, refl, ◌∙◌, ap}
 use Prim.Native.Nat.{◌+◌, ◌*◌, ◌≤◌}
 use native.Mathlib.Omega.{arith}
 use Rattle.std.proofs.Common.{rules}
-use Rattle.pad.proofs.soundpad.write_run.Goals as goal
+use Rattle.pad.proofs.lentpad.write_run.Goals as goal
 
 pub loop-k-init : goal.loop-k-init
 loop-k-init c = record { place = first-place _ _ c.requires.1; below = c.requires.1; same_length = refl; written = rows_start _ _; front = rows_none _ [] }

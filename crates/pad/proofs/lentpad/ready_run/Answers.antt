@@ -7,8 +7,8 @@ use lib.ListN.{get_or}
 use mathlib.Core.Bool.{false, ◌&&◌}
 use mathlib.Core.Path.{sym, ◌∙◌, ap}
 use native.Mathlib.Omega.{arith}
-use Rattle.pad.proofs.soundpad.ready_run.Goals as goal
-use Rattle.pad.proofs.soundpad.ready_run.Goals.{then-held-at, else-held-at}
+use Rattle.pad.proofs.lentpad.ready_run.Goals as goal
+use Rattle.pad.proofs.lentpad.ready_run.Goals.{then-held-at, else-held-at}
 
 pub loop-k-init : goal.loop-k-init
 loop-k-init c = record { place = first-place _ _ c.requires.1; below = c.requires.1; are_ready = λ j h. absurd (omega arith) }

@@ -1,6 +1,6 @@
 use Rattle.std.proofs.Common.{◌≡◌, ℕ, ◌+◌, ◌%◌, ◌<◌, true, false, get_or, ◌&&◌}
 use lib.Dec.{ltb}
-use Rattle.pad.proofs.soundpad.ready_run.Given as goal
+use Rattle.pad.proofs.lentpad.ready_run.Given as goal
 
 abbrev pub invariant-loop-k : goal.invariant-loop-k
 invariant-loop-k l = record {

@@ -2,7 +2,7 @@ use Rattle.rows.proofs.Laws.Cells.{legal-one}
 use Rattle.limits.proofs.Laws.Choice.{pick_yes, pick_no}
 use mathlib.Core.Bool.{not}
 use mathlib.Core.Path.{refl, sym, ◌∙◌, ap}
-use Rattle.pad.proofs.soundpad.row_sound.Goals as goal
+use Rattle.pad.proofs.lentpad.row_sound.Goals as goal
 
 pub returns-then-not-held : goal.returns-then-not-held
 returns-then-not-held c = ap not c.if-not-held.true ∙ sym (pick_no _ _ _ _ c.if-not-held.true refl)

@@ -1,0 +1,6 @@
+use Rattle.pad.proofs.Laws.Ticking.{timers-fell}
+use Rattle.pad.specs.View.{lent_pad}
+use Rattle.pad.proofs.lentpad.LentPad.tick.Goals as goal
+
+pub returns-clause-moves : goal.returns-clause-moves
+returns-clause-moves c = timers-fell c.args.l _ (lent_pad c.args.self.now) _ c.requires.0 c.fall.ensures c.requires.1
