@@ -13,7 +13,7 @@ use Rattle.limits.specs.Events.{Event}
 use Rattle.limits.specs.Questions.{pick, Question, first_no}
 use Rattle.limits.proofs.Laws.Choice.{pick_yes, pick_no}
 use Rattle.limits.proofs.Laws.Promise.{refusal-not-0, changed-refused, changed-handed_on, changed-as}
-use Rattle.mat.specs.View.{mat_of}
+use Rattle.mat.specs.declared.Mat.{Mat}
 use Rattle.events.specs.declared.Link.{Link}
 use Rattle.events.specs.declared.Counts.{Counts}
 use Rattle.events.specs.State.{Moved, no_counts, risen, unmoved}
@@ -42,10 +42,9 @@ call-as qs qs' moved moved' k k' before after r e m c = changed-as qs qs' r _ _ 
 pub zeros : (n : Counts) → (n.sent ≡ 0) × ((n.acknowledged ≡ 0) × (n.recorded ≡ 0)) → n ≡ no_counts
 zeros n e = λ i. record { sent = e.0 i; acknowledged = e.1.0 i; recorded = e.1.1 i }
 
--- a mat whose marks came back as they were
-pub same-marks : (k : Link) (oldest : ℕ) (marks : List Bool) → mat_of oldest k.mat.next marks k.mat.timers k.mat.cells ≡ k.mat
-    → record { limits = k.limits; mat = mat_of k.mat.oldest k.mat.next marks k.mat.timers k.mat.cells; pad = k.pad; datas = k.datas; replies = k.replies } ≡ k
-same-marks k oldest marks e = λ i. record { limits = k.limits; mat = mat_of k.mat.oldest k.mat.next (e i).marks k.mat.timers k.mat.cells; pad = k.pad; datas = k.datas; replies = k.replies }
+-- a mat that came back as it was
+pub same-mat : (k : Link) (m : Mat) → m ≡ k.mat → record { limits = k.limits; mat = m; pad = k.pad; datas = k.datas; replies = k.replies } ≡ k
+same-mat k m e = λ i. record { limits = k.limits; mat = e i; pad = k.pad; datas = k.datas; replies = k.replies }
 
 -- a promise by another name of the event
 pub moves-as : (k : Link) (supply before after : List ℕ) (e e' : Event) (k' : Link) (r : Result Counts Refusal) → e ≡ e'

@@ -13,7 +13,7 @@ use Rattle.std.specs.Prelude.{Ok}
 use Rattle.limits.specs.Limits.{sound_limits}
 use Rattle.limits.specs.Lists.{all}
 use Rattle.limits.specs.Questions.{Question, ask, first_no}
-use Rattle.limits.specs.Tables.{capacity, put}
+use Rattle.limits.specs.Tables.{Reply, capacity, put}
 use Rattle.limits.specs.Events.{reply}
 use Rattle.limits.proofs.Laws.Choice.{pick_yes, pick_no}
 use Rattle.limits.proofs.Laws.Good.{good}
@@ -63,15 +63,15 @@ count_fits l g p s n e = let o = good l g in let m = run-most l g p s in (omega 
 
 module _ (k : Link) (p : Parts k) (before after : List ℕ)
     (z : first_no (reply_asks (pad_state k.limits.window k.pad) (length before) (air.reply_messages k.replies)) ≡ 0)
-    (passed : Pad) (count last : ℕ) (sound : sound_pad k.limits passed ≡ true)
-    (is : record { state = pad_state k.limits.window passed; count = count; reply = record { first = k.pad.wanted; last = last }; buffer = after }
+    (passed : Pad) (count : ℕ) (x : Reply) (sound : sound_pad k.limits passed ≡ true)
+    (is : record { state = pad_state k.limits.window passed; count = count; reply = x; buffer = after }
     ≡ replying k.limits (pad_state k.limits.window k.pad) before) where
   pub replies : (into : ReplyTable) (supply : List ℕ)
-      → air.ReplyHolds k.limits into (put (record { body = record { first = k.pad.wanted; last = last }; life = k.limits.replylife }) (air.reply_messages k.replies))
+      → air.ReplyHolds k.limits into (put (record { body = x; life = k.limits.replylife }) (air.reply_messages k.replies))
       → Moves k supply before after reply (record { limits = k.limits; mat = k.mat; pad = passed; datas = k.datas; replies = into }) (Ok (recorded_by count))
   unfolding link_state
   replies into supply d =
-      done (reply_asks (pad_state k.limits.window k.pad) (length before) (air.reply_messages k.replies)) _ k _ before after _ z (ap (λ (x : Replying). recorded_by x.count) is)
+      done (reply_asks (pad_state k.limits.window k.pad) (length before) (air.reply_messages k.replies)) _ k _ before after _ z (ap (λ (y : Replying). recorded_by y.count) is)
       (λ i. record {
         limits = k.limits;
         mat = mat_state k.limits.window k.mat;
@@ -79,7 +79,7 @@ module _ (k : Link) (p : Parts k) (before after : List ℕ)
         datas = data_messages k.datas;
         replies =
             (d.1
-            ∙ ap (λ (x : Replying). put (record { body = x.reply; life = k.limits.replylife }) (air.reply_messages k.replies)) is) i;
+            ∙ ap (λ (y : Replying). put (record { body = y.reply; life = k.limits.replylife }) (air.reply_messages k.replies)) is) i;
       })
-      (ap (λ (x : Replying). x.buffer) is)
+      (ap (λ (y : Replying). y.buffer) is)
       (whole _ (record { limits = p.limits; mat = p.mat; pad = sound; datas = p.datas; replies = d.0 }))

@@ -1,4 +1,3 @@
-use Rattle.std.proofs.Common.{rules}
 use Rattle.air.specs.Forms.{data_form}
 use Rattle.air.proofs.Laws.Forms.{count-few}
 use Rattle.events.proofs.Laws.Parts.{parts}
@@ -9,9 +8,9 @@ use Rattle.events.proofs.LentLink.lose_data.Goals as goal
 pub returns-then-self-p-clause-moves : goal.returns-then-self-p-clause-moves
 returns-then-self-p-clause-moves c = λ supply b. no-data _ c.args.p supply b c.if-self-p.true
 
-pub remove-self-requires : goal.remove-self-requires
-remove-self-requires c = let p = parts _ c.requires in (c.if-self-p.false, count-few data_form _ _ _ p.datas, search rules)
+pub remove-requires : goal.remove-requires
+remove-requires c = (c.if-self-p.false, count-few data_form _ _ _ (parts _ c.requires).datas)
 
 pub returns-clause-moves : goal.returns-clause-moves
 returns-clause-moves c = λ supply b. let p = parts _ c.requires in
-    rw (zeros _ c.default.ensures) (data-lost _ c.args.p supply b p _ c.if-self-p.false (c.remove-self.ensures c.args.self.now.limits p.datas))
+    rw (zeros _ c.default.ensures) (data-lost _ c.args.p supply b p _ c.if-self-p.false (c.remove.ensures.removed c.args.self.now.limits p.datas))

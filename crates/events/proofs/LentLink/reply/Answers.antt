@@ -2,7 +2,6 @@ use mathlib.Core.Path.{refl, sym, ◌∙◌, ap}
 use native.Mathlib.Omega.{arith}
 use lib.ListN.{length}
 use borrow.Author.Tests.{ltb-true}
-use Rattle.std.proofs.Common.{rules}
 use Rattle.limits.specs.Tables.{sound_reply}
 use Rattle.limits.proofs.Laws.Promise.{refusal-not-0}
 use Rattle.pad.specs.Rules.{Replying}
@@ -12,56 +11,55 @@ use Rattle.air.specs.Laws.{reply_laws}
 use Rattle.air.specs.Replies.{reply_messages}
 use Rattle.events.specs.View.{link_state}
 use Rattle.events.specs.Lent.{lent_link}
-use Rattle.events.proofs.Laws.Parts.{parts, pad-number}
+use Rattle.events.proofs.Laws.Parts.{parts}
 use Rattle.events.proofs.Laws.Ends.{refused, handed_on}
 use Rattle.events.proofs.Laws.Tables.{reply-room}
 use Rattle.events.proofs.Laws.Replying.{nothing-ready, record-full, table-full, all_pass, some-ready, count_fits, replies}
 use Rattle.events.proofs.LentLink.reply.Goals as goal
 
 pub run_length-requires : goal.run_length-requires
-run_length-requires c = let p = parts _ c.requires in (p.limits, pad-number _ p)
+run_length-requires c = let p = parts _ c.requires in (p.limits, p.pad)
 
 pub returns-in_err-count-clause-moves : goal.returns-in_err-count-clause-moves
 unfolding link_state
 returns-in_err-count-clause-moves c = λ supply. let k = lent_link c.args.self.now in let b = c.args.«record».now in
     handed_on _ _ k k b _ _ c.from_residual.ensures.1
-    (nothing-ready (pad_state k.limits.window k.pad) (length b) (reply_messages k.replies) _ (c.in_err-count.ensures k.pad.cells).number (refusal-not-0 _)) refl
+    (nothing-ready (pad_state k.limits.window k.pad) (length b) (reply_messages k.replies) _ c.in_err-count.ensures.number (refusal-not-0 _)) refl
 
 pub overflow_mul-count : goal.overflow_mul-count
 overflow_mul-count c = let k = lent_link c.args.self.now in let p = parts k c.requires in
-    let m = count_fits k.limits p.limits k.pad p.pad _ (c.in_ok-count.ensures k.pad.cells).value in omega (arith, m.1)
+    let m = count_fits k.limits p.limits k.pad p.pad _ c.in_ok-count.ensures.value in omega (arith, m.1)
 
 pub returns-then-record-count-clause-moves : goal.returns-then-record-count-clause-moves
 unfolding link_state
-returns-then-record-count-clause-moves c = λ supply. let k = lent_link c.args.self.now in let a = c.in_ok-count.ensures k.pad.cells in
+returns-then-record-count-clause-moves c = λ supply. let k = lent_link c.args.self.now in let a = c.in_ok-count.ensures in
     refused _ _ k k _ _ (record-full (pad_state k.limits.window k.pad) _ (reply_messages k.replies) (some-ready (pad_state k.limits.window k.pad) a.number) _ a.value c.if-record-count.true) refl
 
-pub returns-then-not-room-clause-moves : goal.returns-then-not-room-clause-moves
+pub returns-then-not-has_room-clause-moves : goal.returns-then-not-has_room-clause-moves
 unfolding link_state
-returns-then-not-room-clause-moves c = λ supply. let k = lent_link c.args.self.now in let a = c.in_ok-count.ensures k.pad.cells in
+returns-then-not-has_room-clause-moves c = λ supply. let k = lent_link c.args.self.now in let a = c.in_ok-count.ensures in
     refused _ _ k k _ _
     (table-full (pad_state k.limits.window k.pad) (length c.args.«record».now) (reply_messages k.replies) (some-ready (pad_state k.limits.window k.pad) a.number) _ a.value
-    (omega (arith, c.if-record-count.false)) (reply-room k.replies _ (sym c.if-not-room.ensures))) refl
+    (omega (arith, c.if-record-count.false)) (reply-room k.replies _ (sym c.if-not-has_room.ensures))) refl
 
-pub record_run-passed-requires : goal.record_run-passed-requires
-record_run-passed-requires c = let k = lent_link c.args.self.now in let p = parts k c.requires in let a = c.in_ok-count.ensures k.pad.cells in
+pub record_run-run-requires : goal.record_run-run-requires
+record_run-run-requires c = let k = lent_link c.args.self.now in let p = parts k c.requires in let a = c.in_ok-count.ensures in
     let r = some-ready (pad_state k.limits.window k.pad) a.number in
-    let m = count_fits k.limits p.limits k.pad p.pad _ a.value in
-    (p.limits, pad-number k p, omega (arith, a.value, r), m.0, omega (arith, c.if-record-count.false))
+    (p.limits, p.pad, omega (arith, a.value, r), a.value, omega (arith, c.if-record-count.false))
 
-pub put-self-requires : goal.put-self-requires
-put-self-requires c = let k = lent_link c.args.self.now in let p = parts k c.requires in let a = c.in_ok-count.ensures k.pad.cells in
+pub put-requires : goal.put-requires
+put-requires c = let k = lent_link c.args.self.now in let p = parts k c.requires in let a = c.in_ok-count.ensures in
     let sound =
-    ap (λ (x : Replying). sound_reply k.limits x.reply) (c.record_run-passed.ensures k.pad.timers p.pad a.value).1
+    ap (λ (x : Replying). sound_reply k.limits x.reply) c.record_run-run.ensures.moves.1
     ∙ replying-sound k.limits p.limits k.pad p.pad c.args.«record».now (some-ready (pad_state k.limits.window k.pad) a.number) in
-    (p.limits, ltb-true k.replies.count 32 (sym c.if-not-room.ensures), reply_laws.sound_fits k.limits _ p.limits sound, search rules)
+    (p.limits, ltb-true k.replies.count 32 (sym c.if-not-has_room.ensures), reply_laws.sound_fits k.limits _ p.limits sound)
 
 pub returns-clause-moves : goal.returns-clause-moves
-returns-clause-moves c = λ supply. let k = lent_link c.args.self.now in let p = parts k c.requires in let a = c.in_ok-count.ensures k.pad.cells in
-    let v = c.record_run-passed.ensures k.pad.timers p.pad a.value in
+returns-clause-moves c = λ supply. let k = lent_link c.args.self.now in let p = parts k c.requires in let a = c.in_ok-count.ensures in
+    let v = c.record_run-run.ensures.moves in
     let some = some-ready (pad_state k.limits.window k.pad) a.number in
     let sound = ap (λ (x : Replying). sound_reply k.limits x.reply) v.1 ∙ replying-sound k.limits p.limits k.pad p.pad c.args.«record».now some in
     rw (c.default.ensures.0, c.default.ensures.1.0)
     (replies k p c.args.«record».now _
-    (all_pass (pad_state k.limits.window k.pad) _ (reply_messages k.replies) some _ a.value (omega (arith, c.if-record-count.false)) (reply-room k.replies _ (sym c.if-not-room.ensures)))
-    _ _ _ v.0 v.1 _ supply (c.put-self.ensures p.replies sound))
+    (all_pass (pad_state k.limits.window k.pad) _ (reply_messages k.replies) some _ a.value (omega (arith, c.if-record-count.false)) (reply-room k.replies _ (sym c.if-not-has_room.ensures)))
+    _ _ _ v.0 v.1 _ supply (c.put.ensures.put p.replies sound))
