@@ -53,7 +53,7 @@ fn cells_sound(held: &[bool; 32], cells: &[u16; 512], w: usize) -> bool
     rows::none_set(held, 0, 32) || held_sound(held, cells, w)
 }
 
-// Question 4 of the pad, by its parts: a pad that is only looked at cannot lend its arrays.
+// Question 4 of the pad, by its parts, since a pad that is only looked at cannot lend its arrays.
 pub fn pad_sound(
     l: Limits,
     wanted: usize,
