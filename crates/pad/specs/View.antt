@@ -27,7 +27,8 @@ lent_pad p = pad_of p.wanted p.held.now p.timers.now p.cells.now
 -- What every call leaves: the arrays that are lent, so that whoever lent them finds what it wrote.
 abbrev pub StaysLent : LentPad → LentPad → Type 0
 StaysLent a b =
-    (b.held.ghost_name ≡ a.held.ghost_name) × (b.timers.ghost_name ≡ a.timers.ghost_name) × (b.cells.ghost_name ≡ a.cells.ghost_name)
+    (b.held.ghost_name ≡ a.held.ghost_name) × (b.timers.ghost_name ≡ a.timers.ghost_name)
+    × (b.cells.ghost_name ≡ a.cells.ghost_name)
 
 -- the row at place p
 unfoldable pub slot_at : Pad → ℕ → Slot

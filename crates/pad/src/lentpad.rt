@@ -53,7 +53,7 @@ fn cells_sound(held: &[bool; 32], cells: &[u16; 512], w: usize) -> bool
     rows::none_set(held, 0, 32) || held_sound(held, cells, w)
 }
 
-// Question 4 of the pad.
+// Question 4 of the pad, by its parts, since a pad that is only looked at cannot lend its arrays.
 pub fn pad_sound(
     l: Limits,
     wanted: usize,
@@ -124,6 +124,7 @@ impl LentPad<'_> {
         ensures moves { Shows l (lent_pad self.new) (holding l (pad_state l.window (lent_pad self.old)) «data») }
     {
         let at = ring::slot(l.window, data.number);
+        // The proof knows the lengths of these two as locals only.
         let held = &mut *self.held;
         let timers = &mut *self.timers;
         held[at] = true;

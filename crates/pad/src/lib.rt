@@ -98,6 +98,7 @@ impl Pad {
         if !self.is_sound(l) {
             return Err(Refusal::Unsound);
         }
+        // A pad that is only looked at cannot lend its arrays.
         let mut copy = *self;
         lend!(copy).run_length(l)
     }

@@ -22,7 +22,7 @@ use Rattle.rows.proofs.Laws.Cells.{written_same, written-other}
 use Rattle.pad.specs.declared.Pad.{Pad}
 use Rattle.pad.specs.Window.{full}
 use Rattle.pad.specs.Rules.{holding}
-use Rattle.pad.specs.View.{slot_at, pad_state, sound_slot, sound_pad}
+use Rattle.pad.specs.View.{slot_at, pad_state, sound_slot, sound_pad, Shows}
 use Rattle.pad.proofs.Laws.Slots.{Sized, slot-full, slot_same}
 use Rattle.pad.proofs.Laws.Sound.{Facts, sound-of}
 use Rattle.limits.specs.Limits.{sound_limits}
@@ -98,5 +98,5 @@ module _ (l : Limits) (p : Pad) (number at : ℕ) (row : List ℕ) (g : Good l) 
 
   -- what holding the row gives
   pub row-held : (after : Pad) → after ≡ stored p at l.replywait row → legal_row row ≡ true → distance (2 * l.window) p.wanted number < l.window
-      → (sound_pad l after ≡ true) × (pad_state l.window after ≡ holding l (pad_state l.window p) (record { number = number; row = row }))
+      → Shows l after (holding l (pad_state l.window p) (record { number = number; row = row }))
   row-held after is legal h = (rw is (stored-sound legal), ap (pad_state l.window) is ∙ stored-state h)

@@ -14,7 +14,7 @@ use Rattle.limits.proofs.Laws.Lists.{tab-ext, map-tab}
 use Rattle.rows.specs.Arrays.{from_to, fallen}
 use Rattle.pad.specs.declared.Pad.{Pad}
 use Rattle.pad.specs.Rules.{slot_falls, ticked}
-use Rattle.pad.specs.View.{pad_of, slot_at, pad_state, sound_slot, sound_pad}
+use Rattle.pad.specs.View.{pad_of, slot_at, pad_state, sound_slot, sound_pad, Shows}
 use Rattle.pad.proofs.Laws.Slots.{slot-full, slot-empty, slot_cases, falls-sound}
 use Rattle.pad.proofs.Laws.Sound.{Facts, facts, sound-of}
 use Rattle.rows.proofs.Laws.Changed.{length-changed, changed-at, inside}
@@ -57,8 +57,7 @@ module _ (l : Limits) (p : Pad) (d : ℕ) (g : Good l) where
 -- what a tick gives, where `timers` is what the timers became
 pub timers-fell : (l : Limits) (d : ℕ) (p : Pad) (timers : List ℕ) → sound_limits l ≡ true
     → timers ≡ fallen l.window d p.timers → sound_pad l p ≡ true
-    → (sound_pad l (pad_of p.wanted p.held timers p.cells) ≡ true)
-    × (pad_state l.window (pad_of p.wanted p.held timers p.cells) ≡ ticked d (pad_state l.window p))
+    → Shows l (pad_of p.wanted p.held timers p.cells) (ticked d (pad_state l.window p))
 timers-fell l d p timers h is s =
     let g = good l h in let e : pad_of p.wanted p.held timers p.cells ≡ aged p l.window d = rw is in
     (rw e (aged-sound l p d g (facts l p s)), ap (pad_state l.window) e ∙ aged-state l p d g)

@@ -1,9 +1,6 @@
-use Rattle.limits.specs.Limits.{sound_limits}
-use Rattle.limits.proofs.Laws.Choice.{two}
 use Rattle.limits.proofs.Laws.Promise.{answered-as, sound-first, unsound-first}
 use Rattle.pad.specs.Rules.{run_questions}
 use Rattle.pad.specs.View.{pad_state}
-use Rattle.pad.proofs.Laws.Sound.{facts}
 use mathlib.Core.Path.{sym, ◌∙◌}
 use Rattle.pad.proofs.Pad.run_length.Goals as goal
 

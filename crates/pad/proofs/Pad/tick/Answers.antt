@@ -1,6 +1,4 @@
 use Rattle.limits.specs.declared.answer.Refusal.TheVariants.{BadArgument}
-use Rattle.limits.specs.Limits.{sound_limits}
-use Rattle.limits.proofs.Laws.Choice.{two}
 use Rattle.limits.proofs.Laws.Promise.{changed-refused, changed-sound, changed-unsound, time-passed, time-refused}
 use Rattle.pad.proofs.Laws.Calls.{with-number}
 use Rattle.pad.specs.Rules.{ticked}
