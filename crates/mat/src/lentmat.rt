@@ -150,6 +150,7 @@ impl LentMat<'_> {
     pub fn keep(&mut self, l: Limits, row: [u16; 16]) -> Data
         requires { SoundAt l (lent_mat self.old) }
         ensures lent { StaysLent self.old self.new }
+        ensures stays { self.new.oldest ≡ self.old.oldest }
         ensures sends { (supply : List ℕ) → (let s = mat_state l.window (lent_mat self.old) in
             Answered (send_questions l s supply) (Ok row) (take 16 supply)
             → SendCall l (send_questions l s supply) (Ok result) (sending l s supply) (lent_mat self.old) (lent_mat self.new)) }
@@ -169,15 +170,17 @@ impl LentMat<'_> {
         ensures { Answered (resend_questions l (mat_state l.window (lent_mat self.now)) k) result (step (2 * l.window) self.now.oldest k) }
     {
         let w = l.window;
+        let marks: &[bool; 32] = self.marks;
+        let timers: &[u16; 32] = self.timers;
         if ring::gap(2 * w, self.oldest, self.next) <= k {
             return Err(Refusal::NotOutstanding);
         }
         let number = ring::forward(2 * w, self.oldest, k);
         let at = ring::slot(w, number);
-        if self.marks[at] {
+        if marks[at] {
             return Err(Refusal::AlreadyAcknowledged);
         }
-        if self.timers[at] != 0 {
+        if timers[at] != 0 {
             return Err(Refusal::TimerRunning);
         }
         Ok(number)
@@ -187,6 +190,7 @@ impl LentMat<'_> {
     pub fn again(&mut self, l: Limits, number: usize) -> Data
         requires { SoundAt l (lent_mat self.old) × (number < 2 * l.window) }
         ensures lent { StaysLent self.old self.new }
+        ensures stays { (self.new.oldest ≡ self.old.oldest) × (self.new.next ≡ self.old.next) }
         ensures resends { (k : ℕ) → (let s = mat_state l.window (lent_mat self.old) in
             Answered (resend_questions l s k) (Ok number) (step (2 * l.window) self.old.oldest k)
             → SendCall l (resend_questions l s k) (Ok result) (resending l s k) (lent_mat self.old) (lent_mat self.new)) }
@@ -203,6 +207,7 @@ impl LentMat<'_> {
         requires { SoundAt l (lent_mat self.old) × (first < 2 * l.window) × (1 ≤ count)
             × (distance (2 * l.window) self.old.oldest first + count ≤ outstanding_of l.window (lent_mat self.old)) }
         ensures lent { StaysLent self.old self.new }
+        ensures stays { self.new.next ≡ self.old.next }
         ensures passes { (sound_mat l (lent_mat self.new) ≡ true)
             × (record { state = mat_state l.window (lent_mat self.new); passed = result }
             ≡ passing l (mat_state l.window (lent_mat self.old)) (distance (2 * l.window) self.old.oldest first) count) }
@@ -221,6 +226,7 @@ impl LentMat<'_> {
     pub fn acknowledge(&mut self, l: Limits, reply: Reply) -> Result<usize, Refusal>
         requires { SoundAt l (lent_mat self.old) × (sound_reply l reply ≡ true) }
         ensures lent { StaysLent self.old self.new }
+        ensures stays { self.new.next ≡ self.old.next }
         ensures acknowledges { (let s = mat_state l.window (lent_mat self.old) in
             AcknowledgeCall l (acknowledge_questions l s reply) result (acknowledging l s reply) (lent_mat self.old) (lent_mat self.new)) }
     {
@@ -239,6 +245,7 @@ impl LentMat<'_> {
     pub fn tick(&mut self, l: Limits, d: u16)
         requires { SoundAt l (lent_mat self.old) }
         ensures lent { StaysLent self.old self.new }
+        ensures stays { (self.new.oldest ≡ self.old.oldest) × (self.new.next ≡ self.old.next) }
         ensures ticks { (sound_mat l (lent_mat self.new) ≡ true)
             × (mat_state l.window (lent_mat self.new) ≡ ticked d (mat_state l.window (lent_mat self.old))) }
     {

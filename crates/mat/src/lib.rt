@@ -115,9 +115,9 @@ impl Mat {
             return Err(Refusal::Unsound);
         }
         let mut lent = lend!(self);
-        let passed = lent.acknowledge(l, reply)?;
+        let passed = lent.acknowledge(l, reply);
         self.oldest = lent.oldest;
-        Ok(passed)
+        passed
     }
 
     // Every resend timer falls by d: 4, 9.
