@@ -158,7 +158,8 @@ impl LentMat<'_> {
         let w = l.window;
         let number = self.next;
         let at = ring::slot(w, number);
-        self.timers[at] = l.resendwait;
+        let timers: &mut [u16] = self.timers;
+        timers[at] = l.resendwait;
         rows::write(self.cells, 16 * at, row);
         self.next = ring::forward(2 * w, number, 1);
         Data { number, row }
@@ -196,7 +197,8 @@ impl LentMat<'_> {
             → SendCall l (resend_questions l s k) (Ok result) (resending l s k) (lent_mat self.old) (lent_mat self.new)) }
     {
         let at = ring::slot(l.window, number);
-        self.timers[at] = l.resendwait;
+        let timers: &mut [u16] = self.timers;
+        timers[at] = l.resendwait;
         let row = rows::load(self.cells, at);
         Data { number, row }
     }

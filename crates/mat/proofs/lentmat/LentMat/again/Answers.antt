@@ -10,7 +10,7 @@ use Rattle.mat.proofs.lentmat.LentMat.again.Goals as goal
 pub returns-clause-resends : goal.returns-clause-resends
 returns-clause-resends c = λ k e. let m = lent_mat c.args.self.now in
     let f = facts _ m c.requires.0.0 c.requires.0.1 in
-    let h = due-there _ m _ _ e in
+    let h = due-there c.args.l m _ _ e in
     let t : length m.timers ≡ 32 = search rules in
     let p = c.slot-at.ensures in
-    resend-done _ m _ _ e _ _ (timed-sound _ m _ _ _ f h t e.value p _ _ refl c.load-row.ensures) (timed-shown _ m _ _ _ f h t e.value p _ _ refl c.load-row.ensures)
+    resend-done c.args.l m _ _ e _ _ (timed-sound _ m _ _ _ f h t e.value p _ _ refl c.load-row.ensures) (timed-shown _ m _ _ _ f h t e.value p _ _ refl c.load-row.ensures)

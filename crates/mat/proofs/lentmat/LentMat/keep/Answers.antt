@@ -17,10 +17,10 @@ forward-self-requires c = let f = facts _ _ c.requires.0 c.requires.1 in omega (
 pub returns-clause-sends : goal.returns-clause-sends
 returns-clause-sends c = λ supply e. let m = lent_mat c.args.self.now in
     let f = facts _ m c.requires.0 c.requires.1 in
-    let fits = next_fits _ m _ _ e in
-    let legal = next-legal _ m _ _ e in
+    let fits = next_fits c.args.l m _ _ e in
+    let legal = next-legal c.args.l m _ _ e in
     let t : length m.timers ≡ 32 = search rules in
     let k : length m.cells ≡ 512 = search rules in
     let r : length c.args.row ≡ 16 = search rules in
     let a = c.slot-at.ensures in
-    send-done _ m _ _ e _ (kept-sound _ m _ f fits t k r _ _ _ _ a c.forward-self.ensures refl c.write.ensures legal) (kept-shown _ m _ f fits t k r _ _ _ _ a c.forward-self.ensures refl c.write.ensures)
+    send-done c.args.l m _ _ e _ (kept-sound _ m _ f fits t k r _ _ _ _ a c.forward-self.ensures refl c.write.ensures legal) (kept-shown _ m _ f fits t k r _ _ _ _ a c.forward-self.ensures refl c.write.ensures)
