@@ -112,6 +112,7 @@ fn marked_run(marks: &[bool; 32], w: usize, from: usize, most: usize) -> usize
     most
 }
 
+// An array of which one place is read or set is named first: the check then knows the place, and how long the array is.
 impl LentMat<'_> {
     pub fn is_sound(&self, l: Limits) -> bool
         requires { sound_limits l ≡ true }
@@ -146,7 +147,7 @@ impl LentMat<'_> {
         Ok(row)
     }
 
-    // The row that a supply answered is kept as row next, its timer is set, and next rises by 1. Gives the row's message.
+    // The first row of a supply, which may be sent, is kept as row next, its timer is set, and next rises by 1. Gives its message.
     pub fn keep(&mut self, l: Limits, row: [u16; 16]) -> Data
         requires { SoundAt l (lent_mat self.old) }
         ensures lent { StaysLent self.old self.new }
@@ -235,9 +236,7 @@ impl LentMat<'_> {
         let w = l.window;
         let Reply { first, last } = reply;
         let count = ring::gap(2 * w, first, last) + 1;
-        if ring::gap(2 * w, self.oldest, self.next)
-            < ring::gap(2 * w, self.oldest, first) + count
-        {
+        if ring::gap(2 * w, self.oldest, self.next) < ring::gap(2 * w, self.oldest, first) + count {
             return Err(Refusal::SpanNotOutstanding);
         }
         Ok(self.mark_off(l, first, count))

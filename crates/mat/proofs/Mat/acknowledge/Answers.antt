@@ -1,13 +1,9 @@
-use Rattle.limits.proofs.Laws.Choice.{three}
 use Rattle.limits.proofs.Laws.Promise.{changed-unsound, changed-sound}
 use mathlib.Core.Path.{refl, sym}
 use Rattle.mat.proofs.Mat.acknowledge.Goals as goal
 
 pub returns-then-not-is_sound_with : goal.returns-then-not-is_sound_with
 returns-then-not-is_sound_with c = changed-unsound _ _ _ _ _ _ _ _ (sym c.if-not-is_sound_with.ensures) refl
-
-pub acknowledge-passed-requires : goal.acknowledge-passed-requires
-acknowledge-passed-requires c = let q = three _ _ _ (sym c.if-not-is_sound_with.ensures) in ((q.0, q.1), q.2)
 
 pub returns : goal.returns
 returns c =

@@ -7,9 +7,6 @@ use Rattle.mat.proofs.Mat.resend.Goals as goal
 pub returns-then-not-is_sound : goal.returns-then-not-is_sound
 returns-then-not-is_sound c = changed-unsound _ _ _ _ _ _ _ _ (sym c.if-not-is_sound.ensures) refl
 
-pub due-requires : goal.due-requires
-due-requires c = two _ _ (sym c.if-not-is_sound.ensures)
-
 pub returns-in_err-number : goal.returns-in_err-number
 returns-in_err-number c =
     changed-sound _ _ _ _ _ _ _ _ _ (sym c.if-not-is_sound.ensures) (changed-handed_on _ _ _ _ _ _ _ _ _ c.from_residual.ensures.1 c.in_err-number.ensures.number refl)

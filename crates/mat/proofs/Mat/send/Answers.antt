@@ -1,4 +1,3 @@
-use Rattle.limits.proofs.Laws.Choice.{two}
 use Rattle.limits.proofs.Laws.Promise.{changed-unsound, changed-sound, changed-handed_on}
 use mathlib.Core.Path.{refl, sym}
 use Rattle.mat.proofs.Mat.send.Goals as goal
@@ -6,15 +5,9 @@ use Rattle.mat.proofs.Mat.send.Goals as goal
 pub returns-then-not-is_sound : goal.returns-then-not-is_sound
 returns-then-not-is_sound c = changed-unsound _ _ _ _ _ _ _ _ (sym c.if-not-is_sound.ensures) refl
 
-pub next_row-requires : goal.next_row-requires
-next_row-requires c = two _ _ (sym c.if-not-is_sound.ensures)
-
 pub returns-in_err-row : goal.returns-in_err-row
 returns-in_err-row c =
     changed-sound _ _ _ _ _ _ _ _ _ (sym c.if-not-is_sound.ensures) (changed-handed_on _ _ _ _ _ _ _ _ _ c.from_residual.ensures.1 c.in_err-row.ensures.number refl)
-
-pub keep-data-requires : goal.keep-data-requires
-keep-data-requires c = two _ _ (sym c.if-not-is_sound.ensures)
 
 pub returns : goal.returns
 returns c =

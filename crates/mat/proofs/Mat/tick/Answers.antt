@@ -1,4 +1,3 @@
-use Rattle.limits.proofs.Laws.Choice.{two}
 use Rattle.limits.proofs.Laws.Promise.{changed-unsound, changed-sound, changed-refused, time-passed, time-refused}
 use native.Mathlib.Omega.{arith}
 use mathlib.Core.Path.{refl, sym}
@@ -10,9 +9,6 @@ returns-then-not-is_sound c = changed-unsound _ _ _ _ _ _ _ _ (sym c.if-not-is_s
 pub returns-then-d-eq0 : goal.returns-then-d-eq0
 returns-then-d-eq0 c =
     changed-sound _ _ _ _ _ _ _ _ _ (sym c.if-not-is_sound.ensures) (changed-refused _ _ _ _ _ _ _ _ (time-refused c.args.d (omega arith)) refl)
-
-pub tick-requires : goal.tick-requires
-tick-requires c = two _ _ (sym c.if-not-is_sound.ensures)
 
 pub returns : goal.returns
 returns c =
