@@ -1,22 +1,32 @@
 -- How the mat's arrays show its window, question 4 of a mat, and what its calls promise.
 -- Free, and not shown: the cells of rows not outstanding, and what stands beyond w. Marks of rows not outstanding are off by
 -- question 4, and every call keeps that.
-use Rattle.std.specs.Prelude.{ℕ, ◌+◌, ◌-◌, ◌*◌, Bool, false, not, ◌&&◌, List, leb, ltb, get_or, replicate, Result, Ok, Err}
+use Rattle.std.specs.Prelude.{ℕ, ◌≡◌, ◌+◌, ◌-◌, ◌*◌, Bool, true, false, not, ◌&&◌, List, leb, ltb, get_or, replicate, Result}
 use Rattle.limits.specs.declared.Limits.{Limits}
 use Rattle.limits.specs.Lists.{tab, all}
 use Rattle.limits.specs.Cells.{row_at, legal_row}
 use Rattle.limits.specs.declared.answer.Refusal.{Refusal}
 use Rattle.limits.specs.Questions.{Question, Answer, Changed}
+use Rattle.limits.specs.Limits.{sound_limits}
 use Rattle.limits.specs.Ring.{distance, place}
 use Rattle.limits.specs.Tables.{Data}
 use Rattle.mat.specs.declared.Mat.{Mat}
-use Rattle.mat.specs.declared.soundmat.Passed.{Passed}
+use Rattle.mat.specs.declared.lentmat.LentMat.{LentMat}
 use Rattle.mat.specs.Window.{MatState}
 use Rattle.mat.specs.Rules.{Sending, Acknowledging}
 
 -- the mat of its two numbers and its three arrays
 abbrev pub mat_of : ℕ → ℕ → List Bool → List ℕ → List ℕ → Mat
 mat_of oldest next marks timers cells = record { oldest = oldest; next = next; marks = marks; timers = timers; cells = cells }
+
+-- the mat that is lent
+abbrev pub lent_mat : LentMat → Mat
+lent_mat m = mat_of m.oldest m.next m.marks.now m.timers.now m.cells.now
+
+-- What every call leaves: the arrays that are lent, so that whoever lent them finds what it wrote.
+abbrev pub StaysLent : LentMat → LentMat → Type 0
+StaysLent a b =
+    (b.marks.ghost_name ≡ a.marks.ghost_name) × (b.timers.ghost_name ≡ a.timers.ghost_name) × (b.cells.ghost_name ≡ a.cells.ghost_name)
 
 abbrev pub outstanding_of : ℕ → Mat → ℕ
 outstanding_of w m = distance (2 * w) m.oldest m.next
@@ -56,6 +66,10 @@ sound_mat l m =
     && (all (λ t. leb t l.resendwait) (tab l.window (λ i. get_or m.timers i 0))
     && all legal_row (tab (outstanding_of l.window m) (cells_at l.window m))))
 
+-- question 4 of limits and a mat, passed
+abbrev pub SoundAt : Limits → Mat → Type 0
+SoundAt l m = (sound_limits l ≡ true) × (sound_mat l m ≡ true)
+
 -- What the mat's calls promise: the answer, what an Ok holds, and the mat afterwards.
 abbrev pub SendCall : Limits → List Question → Result Data Refusal → Sending → Mat → Mat → Type 0
 SendCall l questions result done before after =
@@ -68,12 +82,3 @@ AcknowledgeCall l questions result done before after =
 abbrev pub TickCall : Limits → List Question → Answer → MatState → Mat → Mat → Type 0
 TickCall l questions result done before after =
     Changed questions result tt (mat_state l.window after) done (sound_mat l) before after
-
--- the same of a reply that marks lent arrays: by how many rows oldest rose, and oldest, which a refusal leaves
-abbrev pub passed_rows : Result Passed Refusal → Result ℕ Refusal
-passed_rows (Ok p) = Ok p.passed
-passed_rows (Err refusal) = Err refusal
-
-abbrev pub oldest_after : Result Passed Refusal → ℕ → ℕ
-oldest_after (Ok p) oldest = p.oldest
-oldest_after (Err refusal) oldest = oldest

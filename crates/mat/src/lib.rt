@@ -8,12 +8,12 @@ ghost use Rattle.limits.specs.Tables.{sound_reply};
 ghost use Rattle.mat.specs.Rules.{send_questions, sending, resend_questions, resending, acknowledge_questions, acknowledging, ticked};
 ghost use Rattle.mat.specs.View.{mat_state, fresh_mat, sound_mat, SendCall, AcknowledgeCall, TickCall};
 
-pub mod soundmat;
+pub mod lentmat;
 
+use lentmat::LentMat;
 use limits::Limits;
 use limits::answer::Refusal;
 use limits::messages::{Data, Reply};
-use soundmat::Passed;
 
 // `oldest` and `next` are numbers modulo 2w: the first unacknowledged row and the one to be sent. Row m stands at place m mod w,
 // beside its mark (acknowledged) and its resend timer (retransmission timer).
@@ -24,6 +24,19 @@ pub struct Mat {
     pub marks: [bool; 32],
     pub timers: [u16; 32],
     pub cells: [u16; 512],
+}
+
+// A mat's numbers, and its arrays lent where they are.
+macro_rules! lend {
+    ($m:expr) => {
+        LentMat {
+            oldest: $m.oldest,
+            next: $m.next,
+            marks: &mut $m.marks,
+            timers: &mut $m.timers,
+            cells: &mut $m.cells,
+        }
+    };
 }
 
 impl Mat {
@@ -44,7 +57,7 @@ impl Mat {
         ensures { result ≡ (sound_limits l && sound_mat l self.now) }
     {
         limits::sound_limits(l)
-            && soundmat::mat_sound(
+            && lentmat::mat_sound(
                 l,
                 self.oldest,
                 self.next,
@@ -70,10 +83,11 @@ impl Mat {
         if !self.is_sound(l) {
             return Err(Refusal::Unsound);
         }
-        let row = soundmat::next_row(l, self.oldest, self.next, supply)?;
-        let number = self.next;
-        self.next = soundmat::keep(l, number, &mut self.timers, &mut self.cells, row);
-        Ok(Data { number, row })
+        let mut lent = lend!(self);
+        let row = lent.next_row(l, supply)?;
+        let data = lent.keep(l, row);
+        self.next = lent.next;
+        Ok(data)
     }
 
     // The kept row oldest + k is sent again: 4, 14, 15, 16. Gives the message to put in the data table.
@@ -85,9 +99,9 @@ impl Mat {
         if !self.is_sound(l) {
             return Err(Refusal::Unsound);
         }
-        let number = soundmat::due(l, self.oldest, self.next, &self.marks, &self.timers, k)?;
-        let row = soundmat::again(l, number, &mut self.timers, &self.cells);
-        Ok(Data { number, row })
+        let mut lent = lend!(self);
+        let number = lent.due(l, k)?;
+        Ok(lent.again(l, number))
     }
 
     // A reply arrives: 4, 19. Gives by how many rows oldest rose.
@@ -100,15 +114,10 @@ impl Mat {
         if !self.is_sound_with(l, reply) {
             return Err(Refusal::Unsound);
         }
-        let Passed { oldest, passed } = soundmat::acknowledge(
-            l,
-            self.oldest,
-            self.next,
-            &mut self.marks,
-            reply,
-        )?;
-        self.oldest = oldest;
-        Ok(passed)
+        let mut lent = lend!(self);
+        let passed = lent.acknowledge(l, reply);
+        self.oldest = lent.oldest;
+        passed
     }
 
     // Every resend timer falls by d: 4, 9.
@@ -122,7 +131,7 @@ impl Mat {
         if d == 0 {
             return Err(Refusal::BadArgument);
         }
-        soundmat::tick(l, &mut self.timers, d);
+        lend!(self).tick(l, d);
         Ok(())
     }
 }

@@ -7,21 +7,18 @@ use mathlib.Core.Bool.{true, false}
 use mathlib.Core.List.{List}
 use lib.Dec.{leb}
 use lib.ListN.{take}
-use Rattle.std.specs.Prelude.{Result, Ok}
+use Rattle.std.specs.Prelude.{Ok}
 use Rattle.limits.specs.declared.Limits.{Limits}
-use Rattle.limits.specs.declared.answer.Refusal.{Refusal}
 use Rattle.limits.specs.Questions.{Question, first_no, Answered}
 use Rattle.limits.specs.Lists.{all}
 use Rattle.limits.specs.Cells.{legal_row}
-use Rattle.limits.specs.Limits.{sound_limits}
 use Rattle.limits.specs.Ring.{distance, step}
 use Rattle.limits.specs.Tables.{Data, Reply, span}
-use Rattle.limits.proofs.Laws.Promise.{ok-passed, ok-is}
 use Rattle.limits.proofs.Laws.Questions.{each}
 use Rattle.limits.proofs.Laws.Ring.{step_fits}
 use Rattle.mat.specs.declared.Mat.{Mat}
 use Rattle.mat.specs.Rules.{Sending, send_questions, sending, resend_questions, resending, start_of, passing, acknowledging}
-use Rattle.mat.specs.View.{outstanding_of, mat_state, sound_mat, SendCall}
+use Rattle.mat.specs.View.{outstanding_of, mat_state, sound_mat, SoundAt, SendCall}
 use Rattle.mat.specs.Window.{outstanding}
 use Rattle.mat.proofs.Laws.Sound.{facts}
 use Rattle.mat.proofs.Laws.Send.{sending-row}
@@ -57,44 +54,43 @@ module _ (l : Limits) (m : Mat) (x : Reply) (reach start out : ℕ) (a : reach �
   passing-span = ap (λ r. passing l (mat_state l.window m) (distance (2 * l.window) m.oldest x.first) (r + 1)) a
 
 -- a send that found a row to send: the row may be kept, and once it is the call is done
-module _ (l : Limits) (m : Mat) (supply row : List ℕ) (r : Result (List ℕ) Refusal)
-    (c : Answered (send_questions l (mat_state l.window m) supply) r (take 16 supply)) (e : r ≡ Ok row) where
+module _ (l : Limits) (m : Mat) (supply row : List ℕ)
+    (c : Answered (send_questions l (mat_state l.window m) supply) (Ok row) (take 16 supply)) where
   pub next_fits : outstanding_of l.window m < l.window
   unfolding all
   next_fits =
-      let q = each (send_questions l (mat_state l.window m) supply) refl (ok-passed _ _ _ _ c e) in
+      let q = each (send_questions l (mat_state l.window m) supply) refl (sym c.number) in
       let h = ltb-true (outstanding (mat_state l.window m)) l.window q.0 in
       let o = out-shown l.window m in omega arith
 
   pub next-legal : legal_row row ≡ true
   unfolding all
   next-legal =
-      let q = each (send_questions l (mat_state l.window m) supply) refl (ok-passed _ _ _ _ c e) in
-      ap legal_row (ok-is _ _ _ _ c e) ∙ q.1.1.0
+      let q = each (send_questions l (mat_state l.window m) supply) refl (sym c.number) in
+      ap legal_row c.value ∙ q.1.1.0
 
-  pub send-done : (m' : Mat) → (sound_mat l m' ≡ true) × (record { state = mat_state l.window m'; message = record { number = m.next; row = row } } ≡ sending l (mat_state l.window m) row)
+  pub send-done : (m' : Mat) → sound_mat l m' ≡ true
+      → record { state = mat_state l.window m'; message = record { number = m.next; row = row } } ≡ sending l (mat_state l.window m) row
       → SendCall l (send_questions l (mat_state l.window m) supply) (Ok (record { number = m.next; row = row })) (sending l (mat_state l.window m) supply) m m'
-  send-done m' h = sent _ _ _ _ _ _ (sym (ok-passed _ _ _ _ c e)) h.0 (h.1 ∙ sending-row l _ row supply (ok-is _ _ _ _ c e))
+  send-done m' s h = sent _ _ _ _ _ _ c.number s (h ∙ sending-row l _ row supply c.value)
 
 -- a resend that found a row to send again
-module _ (l : Limits) (m : Mat) (k number : ℕ) (r : Result ℕ Refusal)
-    (c : Answered (resend_questions l (mat_state l.window m) k) r (step (2 * l.window) m.oldest k)) (e : r ≡ Ok number) where
+module _ (l : Limits) (m : Mat) (k number : ℕ)
+    (c : Answered (resend_questions l (mat_state l.window m) k) (Ok number) (step (2 * l.window) m.oldest k)) where
   pub due-there : k < outstanding_of l.window m
   unfolding all
   due-there =
-      let q = each (resend_questions l (mat_state l.window m) k) refl (ok-passed _ _ _ _ c e) in
+      let q = each (resend_questions l (mat_state l.window m) k) refl (sym c.number) in
       let h = ltb-true k (outstanding (mat_state l.window m)) q.0 in
       let o = out-shown l.window m in omega arith
 
-  pub due-is : number ≡ step (2 * l.window) m.oldest k
-  due-is = ok-is _ _ _ _ c e
-
-  pub due-low : sound_limits l ≡ true → sound_mat l m ≡ true → number < 2 * l.window
-  due-low g s =
-      let f = facts l m g s in
+  pub due-low : SoundAt l m → number < 2 * l.window
+  due-low s =
+      let f = facts l m s.0 s.1 in
       let b = step_fits (2 * l.window) m.oldest k (omega arith) in
-      let i = due-is in omega arith
+      let i = c.value in omega arith
 
-  pub resend-done : (m' : Mat) (row : List ℕ) → (sound_mat l m' ≡ true) × (record { state = mat_state l.window m'; message = record { number = number; row = row } } ≡ resending l (mat_state l.window m) k)
+  pub resend-done : (m' : Mat) (row : List ℕ) → sound_mat l m' ≡ true
+      → record { state = mat_state l.window m'; message = record { number = number; row = row } } ≡ resending l (mat_state l.window m) k
       → SendCall l (resend_questions l (mat_state l.window m) k) (Ok (record { number = number; row = row })) (resending l (mat_state l.window m) k) m m'
-  resend-done m' row h = sent _ _ _ _ _ _ (sym (ok-passed _ _ _ _ c e)) h.0 h.1
+  resend-done m' row s h = sent _ _ _ _ _ _ c.number s h

@@ -4,7 +4,7 @@ use Rattle.limits.proofs.Laws.Choice.{and-goes-on}
 use mathlib.Core.Bool.{not}
 use mathlib.Core.Path.{sym, ◌∙◌, ap}
 use Prim.Native.Nat.{◌-◌}
-use Rattle.mat.proofs.soundmat.marked_sound.Goals as goal
+use Rattle.mat.proofs.lentmat.marked_sound.Goals as goal
 
 pub returns-then-not-marks-at : goal.returns-then-not-marks-at
 returns-then-not-marks-at c = λ timers cells. let m = mat_of c.args.oldest c.args.next c.args.marks.now timers cells in

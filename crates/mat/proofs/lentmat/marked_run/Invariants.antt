@@ -1,5 +1,5 @@
 use Rattle.std.proofs.Common.{◌≡◌, ℕ, ◌+◌, ◌%◌, ◌<◌, true, false, get_or}
-use Rattle.mat.proofs.soundmat.marked_run.Given as goal
+use Rattle.mat.proofs.lentmat.marked_run.Given as goal
 
 abbrev pub invariant-loop-k : goal.invariant-loop-k
 invariant-loop-k l = record {

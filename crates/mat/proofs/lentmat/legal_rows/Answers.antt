@@ -3,7 +3,7 @@ use Rattle.rows.proofs.Laws.Cells.{legal-part}
 use Rattle.limits.proofs.Laws.Choice.{and-goes-on, and-stops}
 use Rattle.limits.specs.Cells.{row_at, legal_row}
 use mathlib.Core.Path.{refl, ◌∙◌}
-use Rattle.mat.proofs.soundmat.legal_rows.Goals as goal
+use Rattle.mat.proofs.lentmat.legal_rows.Goals as goal
 
 pub returns-then-legal_cells : goal.returns-then-legal_cells
 returns-then-legal_cells c = let cells = c.args.cells.now in

@@ -2,7 +2,7 @@ use Rattle.mat.proofs.Laws.Sound.{unmarked-sound}
 use Rattle.mat.specs.View.{mat_of}
 use Rattle.rows.proofs.Laws.Places.{none-at}
 use mathlib.Core.Path.{sym, ◌∙◌}
-use Rattle.mat.proofs.soundmat.marks_sound.Goals as goal
+use Rattle.mat.proofs.lentmat.marks_sound.Goals as goal
 
 pub returns-then-none_set : goal.returns-then-none_set
 returns-then-none_set c = λ timers cells.

@@ -3,7 +3,7 @@ use Rattle.limits.proofs.Laws.Choice.{and-goes-on, and-stops}
 use lib.ListN.{get_or}
 use mathlib.Core.Bool.{false, not}
 use mathlib.Core.Path.{refl}
-use Rattle.mat.proofs.soundmat.unmarked.Goals as goal
+use Rattle.mat.proofs.lentmat.unmarked.Goals as goal
 
 pub returns-then-none_set : goal.returns-then-none_set
 returns-then-none_set c =

@@ -4,7 +4,7 @@ use Rattle.limits.proofs.Laws.Good.{good}
 use Rattle.limits.proofs.Laws.Choice.{and-goes-on, and-stops}
 use mathlib.Core.List.{[]}
 use mathlib.Core.Path.{sym, ◌∙◌}
-use Rattle.mat.proofs.soundmat.mat_sound.Goals as goal
+use Rattle.mat.proofs.lentmat.mat_sound.Goals as goal
 
 pub marks_sound-requires : goal.marks_sound-requires
 marks_sound-requires c = let g = good _ c.requires in let n = numbers _ (mat_of c.args.oldest c.args.next [] [] []) (sym (c.numbers_sound.ensures [] [] []) ∙ c.if-numbers_sound.true) in

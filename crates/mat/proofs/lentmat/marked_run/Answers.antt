@@ -5,7 +5,7 @@ use lib.ListN.{get_or}
 use mathlib.Core.Bool.{false}
 use mathlib.Core.Path.{sym, ◌∙◌, ap}
 use native.Mathlib.Omega.{arith}
-use Rattle.mat.proofs.soundmat.marked_run.Goals as goal
+use Rattle.mat.proofs.lentmat.marked_run.Goals as goal
 
 pub loop-k-init : goal.loop-k-init
 loop-k-init c = record { place = first-place _ _ c.requires.1; below = c.requires.1; marked = λ j h. absurd (omega arith) }

@@ -2,7 +2,7 @@ use Rattle.mat.proofs.Laws.Sound.{legal-cells}
 use Rattle.mat.specs.View.{mat_of}
 use Rattle.limits.proofs.Laws.Choice.{and-goes-on}
 use mathlib.Core.Path.{sym, ◌∙◌}
-use Rattle.mat.proofs.soundmat.rows_sound.Goals as goal
+use Rattle.mat.proofs.lentmat.rows_sound.Goals as goal
 
 pub returns-then-at_most : goal.returns-then-at_most
 returns-then-at_most c = λ marks. let m = mat_of c.args.oldest c.args.next marks c.args.timers.now c.args.cells.now in
