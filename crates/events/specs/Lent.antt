@@ -14,6 +14,7 @@ use Rattle.air.specs.Lent as air
 use Rattle.air.specs.Replies.{reply_messages}
 use Rattle.events.specs.declared.Link.{Link}
 use Rattle.events.specs.declared.LentLink.{LentLink}
+use Rattle.events.specs.declared.Numbers.{Numbers}
 use Rattle.events.specs.declared.Counts.{Counts}
 use Rattle.events.specs.declared.event.Event.{Event}
 use Rattle.events.specs.declared.event.Event.TheVariants.{Send, Resend, ArriveData, Reply, ArriveReply, LoseData, LoseReply, Tick}

@@ -1,11 +1,12 @@
 -- A link whose arrays were lent, and whose numbers were put back.
-use mathlib.Core.Path.{◌≡◌, sym, ◌∙◌}
+use mathlib.Core.Path.{◌≡◌, sym, ◌∙◌, ap}
 use Rattle.mat.specs.View.{mat_of}
 use Rattle.pad.specs.View.{pad_of}
 use Rattle.air.specs.Data.{data_table}
 use Rattle.air.specs.Replies.{reply_table}
 use Rattle.events.specs.declared.Link.{Link}
 use Rattle.events.specs.declared.LentLink.{LentLink}
+use Rattle.events.specs.declared.Numbers.{Numbers}
 use Rattle.events.specs.Lent.{lent_link, numbers_of}
 use Rattle.link.specs.View.{renumbered}
 
@@ -20,7 +21,8 @@ written k a =
       replies = reply_table k.replies.count a.replies.words.now;
     }
 
-pub put-back : (k : Link) (a : LentLink) (k' : Link) → a.limits ≡ k.limits → k' ≡ renumbered (written k a) (numbers_of (lent_link a)) → k' ≡ lent_link a
-put-back k a k' e r =
+pub put-back : (k : Link) (a : LentLink) (n : Numbers) (k' : Link) → a.limits ≡ k.limits → n ≡ numbers_of (lent_link a) → k' ≡ renumbered (written k a) n → k' ≡ lent_link a
+put-back k a n k' e m r =
     r
+    ∙ ap (renumbered (written k a)) m
     ∙ (λ i. record { limits = sym e i; mat = (lent_link a).mat; pad = (lent_link a).pad; datas = (lent_link a).datas; replies = (lent_link a).replies })

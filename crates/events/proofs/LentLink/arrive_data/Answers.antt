@@ -1,3 +1,4 @@
+use native.Mathlib.Omega.{arith}
 use mathlib.Core.Path.{refl, sym}
 use mathlib.Core.Bool.{not, ◌||◌}
 use mathlib.Core.List.{[], ◌∷◌}
@@ -27,7 +28,7 @@ use Rattle.events.proofs.Laws.Arriving.{old-arrives, new-arrives}
 use Rattle.events.proofs.LentLink.arrive_data.Goals as goal
 
 pub find-requires : goal.find-requires
-find-requires c = count-few data_form _ _ _ (parts _ c.requires).datas
+find-requires c = (omega arith, count-few data_form _ _ _ (parts _ c.requires).datas)
 
 pub returns-in_err-data-clause-moves : goal.returns-in_err-data-clause-moves
 unfolding link_state
@@ -36,7 +37,7 @@ returns-in_err-data-clause-moves c = λ supply b. let k = lent_link c.args.self.
     (more_stays (place_questions c.args.p (data_messages k.datas)) _ c.in_err-data.ensures.number (ask 18 (not (arrival k.limits (pad_state k.limits.window k.pad) (get_or (data_messages k.datas) c.args.p no_data).body).old || ltb (length (reply_messages k.replies)) capacity) ∷ []) (refusal-not-0 _)) refl
 
 pub in_window-requires : goal.in_window-requires
-in_window-requires c = let k = lent_link c.args.self.now in let p = parts k c.requires in let u = c.in_ok-data in (p.limits, p.pad, message-low _ _ _ (found-sound data_form k.limits k.datas c.args.p u.data u.ensures p.datas))
+in_window-requires c = let k = lent_link c.args.self.now in let p = parts k c.requires in let u = c.in_ok-data in ((p.limits, p.pad), message-low _ _ _ (found-sound data_form k.limits k.datas c.args.p u.data u.ensures p.datas))
 
 pub take_old-requires : goal.take_old-requires
 take_old-requires c = let k = lent_link c.args.self.now in let p = parts k c.requires in let u = c.in_ok-data in
@@ -48,11 +49,11 @@ returns-then-not-in_window-clause-moves c = λ supply b. let k = lent_link c.arg
 
 pub hold-requires : goal.hold-requires
 hold-requires c = let k = lent_link c.args.self.now in let p = parts k c.requires in let u = c.in_ok-data in
-    (p.limits, p.pad, found-sound data_form k.limits k.datas c.args.p u.data u.ensures p.datas, ltb-true _ _ (sym c.if-not-in_window.ensures))
+    ((p.limits, p.pad), found-sound data_form k.limits k.datas c.args.p u.data u.ensures p.datas, ltb-true _ _ (sym c.if-not-in_window.ensures))
 
 pub remove-requires : goal.remove-requires
 remove-requires c = let k = lent_link c.args.self.now in let u = c.in_ok-data in
-    (data-below k.datas c.args.p (there data_form k.limits k.datas c.args.p u.data u.ensures), count-few data_form _ _ _ (parts k c.requires).datas)
+    (omega arith, (data-below k.datas c.args.p (there data_form k.limits k.datas c.args.p u.data u.ensures), count-few data_form _ _ _ (parts k c.requires).datas))
 
 pub returns-clause-moves : goal.returns-clause-moves
 returns-clause-moves c = λ supply b. let k = lent_link c.args.self.now in let p = parts k c.requires in let u = c.in_ok-data in let held = c.hold.ensures.moves in

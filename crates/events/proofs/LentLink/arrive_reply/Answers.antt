@@ -1,3 +1,4 @@
+use native.Mathlib.Omega.{arith}
 use mathlib.Core.Path.{refl}
 use lib.ListN.{get_or}
 use Rattle.limits.specs.Tables.{no_reply}
@@ -19,7 +20,7 @@ use Rattle.events.proofs.Laws.Acknowledging.{both-asked, acknowledged}
 use Rattle.events.proofs.LentLink.arrive_reply.Goals as goal
 
 pub find-requires : goal.find-requires
-find-requires c = count-few reply_form _ _ _ (parts _ c.requires).replies
+find-requires c = (omega arith, count-few reply_form _ _ _ (parts _ c.requires).replies)
 
 pub returns-in_err-reply-clause-moves : goal.returns-in_err-reply-clause-moves
 unfolding link_state
@@ -27,22 +28,22 @@ returns-in_err-reply-clause-moves c = λ supply b. let k = lent_link c.args.self
     handed_on _ _ k k b _ _ c.from_residual.ensures.1
     (more_stays (place_questions c.args.p (reply_messages k.replies)) _ c.in_err-reply.ensures.number (acknowledge_questions k.limits (mat_state k.limits.window k.mat) (get_or (reply_messages k.replies) c.args.p no_reply).body) (refusal-not-0 _)) refl
 
-pub acknowledge-acknowledged-requires : goal.acknowledge-acknowledged-requires
-acknowledge-acknowledged-requires c = let k = lent_link c.args.self.now in let p = parts k c.requires in
-    (p.limits, p.mat, found-sound reply_form k.limits k.replies c.args.p c.in_ok-reply.reply c.in_ok-reply.ensures p.replies)
+pub acknowledge-requires : goal.acknowledge-requires
+acknowledge-requires c = let k = lent_link c.args.self.now in let p = parts k c.requires in
+    ((p.limits, p.mat), found-sound reply_form k.limits k.replies c.args.p c.in_ok-reply.reply c.in_ok-reply.ensures p.replies)
 
 pub returns-in_err-acknowledged-clause-moves : goal.returns-in_err-acknowledged-clause-moves
 unfolding link_state
 returns-in_err-acknowledged-clause-moves c = λ supply b. let k = lent_link c.args.self.now in let p = parts k c.requires in
-    let a = rw c.in_err-acknowledged.was at c.acknowledge-acknowledged.ensures.acknowledges in
+    let a = rw c.in_err-acknowledged.was at c.acknowledge.ensures.acknowledges in
     handed_on _ _ k _ b _ _ c.from_residual-in_err-acknowledged.ensures.1 (both-asked k p _ c.in_ok-reply.reply c.in_ok-reply.ensures _ _ a) (same-mat k _ a.kept)
 
 pub remove-requires : goal.remove-requires
 remove-requires c = let k = lent_link c.args.self.now in let p = parts k c.requires in
-    (reply-below k.replies c.args.p (there reply_form k.limits k.replies c.args.p c.in_ok-reply.reply c.in_ok-reply.ensures), count-few reply_form _ _ _ p.replies)
+    (omega arith, (reply-below k.replies c.args.p (there reply_form k.limits k.replies c.args.p c.in_ok-reply.reply c.in_ok-reply.ensures), count-few reply_form _ _ _ p.replies))
 
 pub returns-clause-moves : goal.returns-clause-moves
 returns-clause-moves c = λ supply b. let k = lent_link c.args.self.now in let p = parts k c.requires in
-    let a = rw c.in_ok-acknowledged.was at c.acknowledge-acknowledged.ensures.acknowledges in
+    let a = rw c.in_ok-acknowledged.was at c.acknowledge.ensures.acknowledges in
     rw (c.default.ensures.0, c.default.ensures.1.1)
     (acknowledged k p _ c.in_ok-reply.reply c.in_ok-reply.ensures _ _ a _ supply b (c.remove.ensures.removed k.limits p.replies))

@@ -1,3 +1,4 @@
+use native.Mathlib.Omega.{arith}
 use Rattle.air.specs.Forms.{reply_form}
 use Rattle.air.proofs.Laws.Forms.{count-few}
 use Rattle.events.proofs.Laws.Parts.{parts}
@@ -9,7 +10,7 @@ pub returns-then-self-p-clause-moves : goal.returns-then-self-p-clause-moves
 returns-then-self-p-clause-moves c = λ supply b. no-reply _ c.args.p supply b c.if-self-p.true
 
 pub remove-requires : goal.remove-requires
-remove-requires c = (c.if-self-p.false, count-few reply_form _ _ _ (parts _ c.requires).replies)
+remove-requires c = (omega arith, (c.if-self-p.false, count-few reply_form _ _ _ (parts _ c.requires).replies))
 
 pub returns-clause-moves : goal.returns-clause-moves
 returns-clause-moves c = λ supply b. let p = parts _ c.requires in

@@ -45,14 +45,14 @@ returns-then-not-has_room-clause-moves c = λ supply. let k = lent_link c.args.s
 pub record_run-run-requires : goal.record_run-run-requires
 record_run-run-requires c = let k = lent_link c.args.self.now in let p = parts k c.requires in let a = c.in_ok-count.ensures in
     let r = some-ready (pad_state k.limits.window k.pad) a.number in
-    (p.limits, p.pad, omega (arith, a.value, r), a.value, omega (arith, c.if-record-count.false))
+    ((p.limits, p.pad), omega (arith, a.value, r), a.value, omega (arith, c.if-record-count.false))
 
 pub put-requires : goal.put-requires
 put-requires c = let k = lent_link c.args.self.now in let p = parts k c.requires in let a = c.in_ok-count.ensures in
     let sound =
     ap (λ (x : Replying). sound_reply k.limits x.reply) c.record_run-run.ensures.moves.1
     ∙ replying-sound k.limits p.limits k.pad p.pad c.args.«record».now (some-ready (pad_state k.limits.window k.pad) a.number) in
-    (p.limits, ltb-true k.replies.count 32 (sym c.if-not-has_room.ensures), reply_laws.sound_fits k.limits _ p.limits sound)
+    (omega arith, (p.limits, ltb-true k.replies.count 32 (sym c.if-not-has_room.ensures), reply_laws.sound_fits k.limits _ p.limits sound))
 
 pub returns-clause-moves : goal.returns-clause-moves
 returns-clause-moves c = λ supply. let k = lent_link c.args.self.now in let p = parts k c.requires in let a = c.in_ok-count.ensures in

@@ -1,3 +1,4 @@
+use native.Mathlib.Omega.{arith}
 use mathlib.Core.Path.{refl, sym, ◌∙◌, ap}
 use borrow.Author.Tests.{ltb-true}
 use Rattle.limits.specs.Lists.{all}
@@ -35,19 +36,19 @@ returns-then-not-has_room-clause-moves c = λ supply b. let k = lent_link c.args
     refused _ _ k k b _
     (more-fails (resend_questions k.limits (mat_state k.limits.window k.mat) c.args.k) _ c.in_ok-number.ensures.number 13 _ refl refl (data-room k.datas _ (sym c.if-not-has_room.ensures))) refl
 
-pub again-requires : goal.again-requires
-again-requires c = let k = lent_link c.args.self.now in let p = parts k c.requires in (p.limits, p.mat, due-low k.limits k.mat c.args.k _ c.in_ok-number.ensures p.limits p.mat)
+pub again-again-requires : goal.again-again-requires
+again-again-requires c = let k = lent_link c.args.self.now in let p = parts k c.requires in ((p.limits, p.mat), due-low k.limits k.mat c.args.k _ c.in_ok-number.ensures (p.limits, p.mat))
 
 pub put-requires : goal.put-requires
 put-requires c = let k = lent_link c.args.self.now in let p = parts k c.requires in
-    let v = c.again.ensures.resends c.args.k c.in_ok-number.ensures in
+    let v = c.again-again.ensures.resends c.args.k c.in_ok-number.ensures in
     let sound = ap (sound_data k.limits) v.answered.value ∙ resending-sound k.limits k.mat p.limits p.mat c.args.k (sym v.answered.number) in
-    (p.limits, ltb-true k.datas.count 32 (sym c.if-not-has_room.ensures), data_laws.sound_fits k.limits _ p.limits sound)
+    (omega arith, (p.limits, ltb-true k.datas.count 32 (sym c.if-not-has_room.ensures), data_laws.sound_fits k.limits _ p.limits sound))
 
 pub returns-clause-moves : goal.returns-clause-moves
 unfolding link_state all
 returns-clause-moves c = λ supply b. let k = lent_link c.args.self.now in let p = parts k c.requires in
-    let v = c.again.ensures.resends c.args.k c.in_ok-number.ensures in
+    let v = c.again-again.ensures.resends c.args.k c.in_ok-number.ensures in
     let sound = ap (sound_data k.limits) v.answered.value ∙ resending-sound k.limits k.mat p.limits p.mat c.args.k (sym v.answered.number) in
     rw (zeros _ c.default.ensures)
     (sends k p _ _ _ _ v _ no_counts b refl (data-room k.datas _ (sym c.if-not-has_room.ensures)) (c.put.ensures.put p.datas sound))

@@ -1,3 +1,4 @@
+use native.Mathlib.Omega.{arith}
 use mathlib.Core.Path.{refl, sym, ◌∙◌, ap}
 use borrow.Author.Tests.{ltb-true}
 use Rattle.limits.specs.Lists.{all}
@@ -41,7 +42,7 @@ pub put-requires : goal.put-requires
 put-requires c = let k = lent_link c.args.self.now in let p = parts k c.requires in
     let v = c.keep-data.ensures.sends c.args.supply.now c.in_ok-row.ensures in
     let sound = ap (sound_data k.limits) v.answered.value ∙ sending-sound k.limits k.mat p.limits p.mat c.args.supply.now (sym v.answered.number) in
-    (p.limits, ltb-true k.datas.count 32 (sym c.if-not-has_room.ensures), data_laws.sound_fits k.limits _ p.limits sound)
+    (omega arith, (p.limits, ltb-true k.datas.count 32 (sym c.if-not-has_room.ensures), data_laws.sound_fits k.limits _ p.limits sound))
 
 pub returns-clause-moves : goal.returns-clause-moves
 unfolding link_state all

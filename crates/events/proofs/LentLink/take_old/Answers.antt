@@ -1,3 +1,4 @@
+use native.Mathlib.Omega.{arith}
 use mathlib.Core.Path.{sym}
 use borrow.Author.Tests.{ltb-true}
 use Rattle.pad.proofs.Laws.Messages.{single-sound}
@@ -15,10 +16,10 @@ returns-then-not-has_room-clause-moves c = λ b. let k = lent_link c.args.self.n
 
 pub put-requires : goal.put-requires
 put-requires c = let k = lent_link c.args.self.now in let p = parts k c.requires.0 in
-    (p.limits, ltb-true k.replies.count 32 (sym c.if-not-has_room.ensures), reply_laws.sound_fits k.limits _ p.limits (single-sound _ p.limits c.args.number c.requires.2))
+    (omega arith, (p.limits, ltb-true k.replies.count 32 (sym c.if-not-has_room.ensures), reply_laws.sound_fits k.limits _ p.limits (single-sound _ p.limits c.args.number c.requires.2)))
 
 pub remove-requires : goal.remove-requires
-remove-requires c = (c.requires.1, count-few data_form _ _ _ (parts _ c.requires.0).datas)
+remove-requires c = (omega arith, (c.requires.1, count-few data_form _ _ _ (parts _ c.requires.0).datas))
 
 pub returns-clause-moves : goal.returns-clause-moves
 returns-clause-moves c = λ b. let k = lent_link c.args.self.now in let p = parts k c.requires.0 in

@@ -1,3 +1,4 @@
+use native.Mathlib.Omega.{arith}
 use Rattle.air.specs.Forms.{data_form, reply_form}
 use Rattle.air.proofs.Laws.Forms.{count-few}
 use Rattle.events.specs.Lent.{lent_link}
@@ -13,10 +14,10 @@ pub tick-requires-2 : goal.tick-requires-2
 tick-requires-2 c = let p = parts _ c.requires in (p.limits, p.pad)
 
 pub age-requires : goal.age-requires
-age-requires c = count-few data_form _ _ _ (parts _ c.requires).datas
+age-requires c = (omega arith, count-few data_form _ _ _ (parts _ c.requires).datas)
 
 pub age-requires-2 : goal.age-requires-2
-age-requires-2 c = count-few reply_form _ _ _ (parts _ c.requires).replies
+age-requires-2 c = (omega arith, count-few reply_form _ _ _ (parts _ c.requires).replies)
 
 pub returns-clause-moves : goal.returns-clause-moves
 returns-clause-moves c = λ supply b. let k = lent_link c.args.self.now in let p = parts k c.requires in
