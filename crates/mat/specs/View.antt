@@ -26,7 +26,8 @@ lent_mat m = mat_of m.oldest m.next m.marks.now m.timers.now m.cells.now
 -- What every call leaves: the arrays that are lent, so that whoever lent them finds what it wrote.
 abbrev pub StaysLent : LentMat → LentMat → Type 0
 StaysLent a b =
-    (b.marks.ghost_name ≡ a.marks.ghost_name) × (b.timers.ghost_name ≡ a.timers.ghost_name) × (b.cells.ghost_name ≡ a.cells.ghost_name)
+    (b.marks.ghost_name ≡ a.marks.ghost_name)
+    × (b.timers.ghost_name ≡ a.timers.ghost_name) × (b.cells.ghost_name ≡ a.cells.ghost_name)
 
 abbrev pub outstanding_of : ℕ → Mat → ℕ
 outstanding_of w m = distance (2 * w) m.oldest m.next

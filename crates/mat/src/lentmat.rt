@@ -112,7 +112,7 @@ fn marked_run(marks: &[bool; 32], w: usize, from: usize, most: usize) -> usize
     most
 }
 
-// An array of which one place is read or set is named first: the check then knows the place, and how long the array is.
+// Where one place of an array is read or set, the array is named first, so that the check follows it and knows its length.
 impl LentMat<'_> {
     pub fn is_sound(&self, l: Limits) -> bool
         requires { sound_limits l ≡ true }
@@ -147,7 +147,8 @@ impl LentMat<'_> {
         Ok(row)
     }
 
-    // The first row of a supply, which may be sent, is kept as row next, its timer is set, and next rises by 1. Gives its message.
+    // The first row of a supply, which may be sent, is kept as row next, its timer is set, and next rises by 1. Gives the row's
+    // message.
     pub fn keep(&mut self, l: Limits, row: [u16; 16]) -> Data
         requires { SoundAt l (lent_mat self.old) }
         ensures lent { StaysLent self.old self.new }
@@ -169,7 +170,8 @@ impl LentMat<'_> {
     // The number oldest + k, where its row may be sent again: 14, 15, 16.
     pub fn due(&self, l: Limits, k: usize) -> Result<usize, Refusal>
         requires { SoundAt l (lent_mat self.now) }
-        ensures { Answered (resend_questions l (mat_state l.window (lent_mat self.now)) k) result (step (2 * l.window) self.now.oldest k) }
+        ensures { Answered (resend_questions l (mat_state l.window (lent_mat self.now)) k) result
+            (step (2 * l.window) self.now.oldest k) }
     {
         let w = l.window;
         let marks: &[bool; 32] = self.marks;
@@ -231,7 +233,8 @@ impl LentMat<'_> {
         ensures lent { StaysLent self.old self.new }
         ensures stays { self.new.next ≡ self.old.next }
         ensures acknowledges { (let s = mat_state l.window (lent_mat self.old) in
-            AcknowledgeCall l (acknowledge_questions l s reply) result (acknowledging l s reply) (lent_mat self.old) (lent_mat self.new)) }
+            AcknowledgeCall l (acknowledge_questions l s reply) result (acknowledging l s reply)
+            (lent_mat self.old) (lent_mat self.new)) }
     {
         let w = l.window;
         let Reply { first, last } = reply;
