@@ -57,30 +57,10 @@ pub fn message_at<M: Carried>(words: &[u16], p: usize) -> Message<M>
 pub struct LentTable<'a, M, const N: usize> {
     pub count: usize,
     pub words: &'a mut [u16; N],
-    carries: PhantomData<M>,
+    pub carries: PhantomData<M>,
 }
 
-impl<'a, M: Roomy<N>, const N: usize> LentTable<'a, M, N> {
-    pub fn of(count: usize, words: &'a mut [u16; N]) -> LentTable<'a, M, N>
-        ensures count { result.count ≡ count }
-        ensures lent { result.words.ghost_name ≡ words.entry.ghost_name }
-        ensures words { result.words.now ≡ words.entry.now }
-    {
-        LentTable {
-            count,
-            words,
-            carries: PhantomData,
-        }
-    }
-
-    // Question 4.
-    pub fn is_sound(&self, l: Limits) -> bool
-        requires { sound_limits l ≡ true }
-        ensures { result ≡ sound_in M.form l (lent_table self.now) }
-    {
-        table_sound::<M>(l, self.count, self.words)
-    }
-
+impl<M: Roomy<N>, const N: usize> LentTable<'_, M, N> {
     // Whether a message more finds a place.
     pub fn has_room(&self) -> bool
         ensures { result ≡ ltb self.now.count capacity }

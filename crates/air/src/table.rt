@@ -15,6 +15,17 @@ use limits::answer::Refusal;
 use limits::messages::{Data, Message, Reply};
 use std::marker::PhantomData;
 
+// A table whose words are lent where they are.
+macro_rules! lend {
+    ($table:expr) => {
+        LentTable {
+            count: $table.count,
+            words: &mut $table.words,
+            carries: PhantomData::<M>,
+        }
+    };
+}
+
 // Message p stands at p times the words of a message, its life first.
 #[derive(Clone, Copy)]
 pub struct Table<M, const N: usize> {
@@ -111,7 +122,7 @@ impl<M: Roomy<N>, const N: usize> Table<M, N> {
             (remove p (table_messages M.form self.old)) result self.old self.new }
     {
         self.read(l, p)?;
-        let mut lent = LentTable::<M, N>::of(self.count, &mut self.words);
+        let mut lent = lend!(self);
         lent.remove(p);
         self.count = lent.count;
         Ok(())
@@ -129,7 +140,7 @@ impl<M: Roomy<N>, const N: usize> Table<M, N> {
         if d == 0 {
             return Err(Refusal::BadArgument);
         }
-        let mut lent = LentTable::<M, N>::of(self.count, &mut self.words);
+        let mut lent = lend!(self);
         lent.age(d);
         self.count = lent.count;
         Ok(())

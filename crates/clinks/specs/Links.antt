@@ -4,7 +4,6 @@ use Rattle.limits.specs.declared.Limits.{Limits}
 use Rattle.limits.specs.Questions.{pick}
 use Rattle.events.specs.declared.Link.{Link}
 use Rattle.events.specs.declared.Numbers.{Numbers}
-use Rattle.events.specs.Lent.{numbers_of}
 use Rattle.mat.specs.View.{mat_of}
 use Rattle.pad.specs.View.{pad_of}
 use Rattle.air.specs.Data.{data_table}
@@ -93,6 +92,10 @@ numbers_fit l n =
 abbrev pub link_at : CLink → Link
 link_at s =
     link_of (limits_at s.head) (numbers_at s.head) (map is_on s.matmark) s.mattimer s.matcell (map is_on s.padmark) s.padtimer s.padcell s.datas s.replies
+
+abbrev pub numbers_of : Link → Numbers
+numbers_of k =
+    record { oldest = k.mat.oldest; next = k.mat.next; wanted = k.pad.wanted; datas = k.datas.count; replies = k.replies.count }
 
 -- how a link is stored
 abbrev pub stored : Link → CLink

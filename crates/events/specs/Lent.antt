@@ -4,17 +4,13 @@ use Rattle.limits.specs.declared.answer.Refusal.{Refusal}
 use Rattle.limits.specs.Answer.{refusal_number}
 use Rattle.limits.specs.Tables as tables
 use Rattle.limits.specs.Events as paper
-use Rattle.mat.specs.View.{lent_mat}
-use Rattle.mat.specs.View as mat
-use Rattle.pad.specs.View.{lent_pad}
-use Rattle.pad.specs.View as pad
+use Rattle.mat.specs.View.{mat_of}
+use Rattle.pad.specs.View.{pad_of}
 use Rattle.air.specs.Rules.{room_questions}
-use Rattle.air.specs.Lent.{lent_table}
-use Rattle.air.specs.Lent as air
-use Rattle.air.specs.Replies.{reply_messages}
+use Rattle.air.specs.Data.{data_table}
+use Rattle.air.specs.Replies.{reply_table, reply_messages}
 use Rattle.events.specs.declared.Link.{Link}
 use Rattle.events.specs.declared.LentLink.{LentLink}
-use Rattle.events.specs.declared.Numbers.{Numbers}
 use Rattle.events.specs.declared.Counts.{Counts}
 use Rattle.events.specs.declared.event.Event.{Event}
 use Rattle.events.specs.declared.event.Event.TheVariants.{Send, Resend, ArriveData, Reply, ArriveReply, LoseData, LoseReply, Tick}
@@ -24,15 +20,23 @@ use Rattle.events.specs.View.{link_state, LinkCall}
 
 -- the link that is lent
 abbrev pub lent_link : LentLink → Link
-lent_link k = record { limits = k.limits; mat = lent_mat k.mat; pad = lent_pad k.pad; datas = lent_table k.datas; replies = lent_table k.replies }
-
-abbrev pub numbers_of : Link → Numbers
-numbers_of k =
-    record { oldest = k.mat.oldest; next = k.mat.next; wanted = k.pad.wanted; datas = k.datas.count; replies = k.replies.count }
+lent_link k =
+    record {
+      limits = k.limits;
+      mat = mat_of k.numbers.oldest k.numbers.next k.marks.now k.mattimers.now k.matcells.now;
+      pad = pad_of k.numbers.wanted k.held.now k.padtimers.now k.padcells.now;
+      datas = data_table k.numbers.datas k.datas.now;
+      replies = reply_table k.numbers.replies k.replies.now;
+    }
 
 -- What every call leaves: the limits, and the arrays that are lent, so that whoever lent them finds what it wrote.
 abbrev pub StaysLent : LentLink → LentLink → Type 0
-StaysLent a b = (b.limits ≡ a.limits) × mat.StaysLent a.mat b.mat × pad.StaysLent a.pad b.pad × air.StaysLent a.datas b.datas × air.StaysLent a.replies b.replies
+StaysLent a b =
+    (b.limits ≡ a.limits)
+    × (b.marks.ghost_name ≡ a.marks.ghost_name) × (b.mattimers.ghost_name ≡ a.mattimers.ghost_name)
+    × (b.matcells.ghost_name ≡ a.matcells.ghost_name) × (b.held.ghost_name ≡ a.held.ghost_name)
+    × (b.padtimers.ghost_name ≡ a.padtimers.ghost_name) × (b.padcells.ghost_name ≡ a.padcells.ghost_name)
+    × (b.datas.ghost_name ≡ a.datas.ghost_name) × (b.replies.ghost_name ≡ a.replies.ghost_name)
 
 -- the event of the papers that it is
 abbrev pub event_of : Event → paper.Event

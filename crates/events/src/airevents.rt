@@ -5,7 +5,12 @@ ghost use Rattle.events.specs.View.{sound_link, Moves};
 ghost use Rattle.events.specs.Lent.{lent_link, StaysLent};
 
 use crate::{Counts, LentLink};
+use air::lent::LentTable;
 use limits::answer::Refusal;
+use limits::messages::{Data, Reply};
+use mat::lentmat::LentMat;
+use pad::lentpad::LentPad;
+use std::marker::PhantomData;
 
 impl LentLink<'_> {
     // Message p leaves the data table: 17.
@@ -14,10 +19,12 @@ impl LentLink<'_> {
         ensures lent { StaysLent self.old self.new }
         ensures moves { (supply b : List ℕ) → Moves (lent_link self.old) supply b b (lose_data p) (lent_link self.new) result }
     {
-        if self.datas.count <= p {
+        if self.numbers.datas <= p {
             return Err(Refusal::NoMessage);
         }
-        self.datas.remove(p);
+        let mut datas = lend_datas!(self);
+        datas.remove(p);
+        self.numbers.datas = datas.count;
         Ok(Counts::default())
     }
 
@@ -27,10 +34,12 @@ impl LentLink<'_> {
         ensures lent { StaysLent self.old self.new }
         ensures moves { (supply b : List ℕ) → Moves (lent_link self.old) supply b b (lose_reply p) (lent_link self.new) result }
     {
-        if self.replies.count <= p {
+        if self.numbers.replies <= p {
             return Err(Refusal::NoMessage);
         }
-        self.replies.remove(p);
+        let mut replies = lend_replies!(self);
+        replies.remove(p);
+        self.numbers.replies = replies.count;
         Ok(Counts::default())
     }
 
@@ -40,10 +49,14 @@ impl LentLink<'_> {
         ensures lent { StaysLent self.old self.new }
         ensures moves { (supply b : List ℕ) → Moves (lent_link self.old) supply b b (tick d) (lent_link self.new) result }
     {
-        self.mat.tick(self.limits, d);
-        self.pad.tick(self.limits, d);
-        self.datas.age(d);
-        self.replies.age(d);
+        lend_mat!(self).tick(self.limits, d);
+        lend_pad!(self).tick(self.limits, d);
+        let mut datas = lend_datas!(self);
+        datas.age(d);
+        self.numbers.datas = datas.count;
+        let mut aged = lend_replies!(self);
+        aged.age(d);
+        self.numbers.replies = aged.count;
         Ok(Counts::default())
     }
 }

@@ -1,22 +1,59 @@
 // The events of a link: what each asks and does, on a link whose arrays are lent and change in place.
 #![tactic(auto)]
 
+// The parts of a lent link, each with its arrays lent on. Whoever changes a part writes its numbers back.
+macro_rules! lend_mat {
+    ($link:expr) => {
+        LentMat {
+            oldest: $link.numbers.oldest,
+            next: $link.numbers.next,
+            marks: &mut *$link.marks,
+            timers: &mut *$link.mattimers,
+            cells: &mut *$link.matcells,
+        }
+    };
+}
+
+macro_rules! lend_pad {
+    ($link:expr) => {
+        LentPad {
+            wanted: $link.numbers.wanted,
+            held: &mut *$link.held,
+            timers: &mut *$link.padtimers,
+            cells: &mut *$link.padcells,
+        }
+    };
+}
+
+macro_rules! lend_datas {
+    ($link:expr) => {
+        LentTable {
+            count: $link.numbers.datas,
+            words: &mut *$link.datas,
+            carries: PhantomData::<Data>,
+        }
+    };
+}
+
+macro_rules! lend_replies {
+    ($link:expr) => {
+        LentTable {
+            count: $link.numbers.replies,
+            words: &mut *$link.replies,
+            carries: PhantomData::<Reply>,
+        }
+    };
+}
+
 pub mod airevents;
 pub mod event;
 pub mod matevents;
 pub mod padevents;
 
-ghost use Rattle.std.specs.Prelude.{◌≡◌};
-ghost use Rattle.events.specs.Lent.{numbers_of, lent_link};
-
-use air::lent::LentTable;
 use air::table::{DataTable, ReplyTable};
 use limits::Limits;
-use limits::messages::{Data, Reply};
 use mat::Mat;
-use mat::lentmat::LentMat;
 use pad::Pad;
-use pad::lentpad::LentPad;
 
 // The mat, the pad and the messages in the air between them.
 #[derive(Clone, Copy)]
@@ -38,29 +75,19 @@ pub struct Numbers {
     pub replies: usize,
 }
 
-// A link whose arrays are lent.
+// A link whose arrays are lent: those of the mat, those of the pad, and the words of the two tables.
 #[derive(Drop)]
 pub struct LentLink<'a> {
     pub limits: Limits,
-    pub mat: LentMat<'a>,
-    pub pad: LentPad<'a>,
-    pub datas: LentTable<'a, Data, 576>,
-    pub replies: LentTable<'a, Reply, 96>,
-}
-
-impl LentLink<'_> {
-    // What whoever lent the arrays has to keep beside them.
-    pub fn numbers(&self) -> Numbers
-        ensures { result ≡ numbers_of (lent_link self.now) }
-    {
-        Numbers {
-            oldest: self.mat.oldest,
-            next: self.mat.next,
-            wanted: self.pad.wanted,
-            datas: self.datas.count,
-            replies: self.replies.count,
-        }
-    }
+    pub numbers: Numbers,
+    pub marks: &'a mut [bool; 32],
+    pub mattimers: &'a mut [u16; 32],
+    pub matcells: &'a mut [u16; 512],
+    pub held: &'a mut [bool; 32],
+    pub padtimers: &'a mut [u16; 32],
+    pub padcells: &'a mut [u16; 512],
+    pub datas: &'a mut [u16; 576],
+    pub replies: &'a mut [u16; 96],
 }
 
 // By how many rows sent, acknowledged and recorded rose.

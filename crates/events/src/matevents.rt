@@ -5,7 +5,11 @@ ghost use Rattle.events.specs.View.{sound_link, Moves};
 ghost use Rattle.events.specs.Lent.{lent_link, StaysLent};
 
 use crate::{Counts, LentLink};
+use air::lent::LentTable;
 use limits::answer::Refusal;
+use limits::messages::{Data, Reply};
+use mat::lentmat::LentMat;
+use std::marker::PhantomData;
 
 impl LentLink<'_> {
     // The next row is sent: 10, 11, 12, 13.
@@ -14,12 +18,16 @@ impl LentLink<'_> {
         ensures lent { StaysLent self.old self.new }
         ensures moves { (b : List ℕ) → Moves (lent_link self.old) supply.now b b send (lent_link self.new) result }
     {
-        let row = self.mat.next_row(self.limits, supply)?;
-        if !self.datas.has_room() {
+        let mut mat = lend_mat!(self);
+        let row = mat.next_row(self.limits, supply)?;
+        let mut datas = lend_datas!(self);
+        if !datas.has_room() {
             return Err(Refusal::DataTableFull);
         }
-        let data = self.mat.keep(self.limits, row);
-        self.datas.put(self.limits, data);
+        let data = mat.keep(self.limits, row);
+        self.numbers.next = mat.next;
+        datas.put(self.limits, data);
+        self.numbers.datas = datas.count;
         Ok(Counts {
             sent: 1,
             ..Counts::default()
@@ -32,12 +40,15 @@ impl LentLink<'_> {
         ensures lent { StaysLent self.old self.new }
         ensures moves { (supply b : List ℕ) → Moves (lent_link self.old) supply b b (resend k) (lent_link self.new) result }
     {
-        let number = self.mat.due(self.limits, k)?;
-        if !self.datas.has_room() {
+        let mut mat = lend_mat!(self);
+        let number = mat.due(self.limits, k)?;
+        let mut datas = lend_datas!(self);
+        if !datas.has_room() {
             return Err(Refusal::DataTableFull);
         }
-        let again = self.mat.again(self.limits, number);
-        self.datas.put(self.limits, again);
+        let again = mat.again(self.limits, number);
+        datas.put(self.limits, again);
+        self.numbers.datas = datas.count;
         Ok(Counts::default())
     }
 
@@ -47,9 +58,13 @@ impl LentLink<'_> {
         ensures lent { StaysLent self.old self.new }
         ensures moves { (supply b : List ℕ) → Moves (lent_link self.old) supply b b (arrive_reply p) (lent_link self.new) result }
     {
-        let reply = self.replies.find(p)?;
-        let acknowledged = self.mat.acknowledge(self.limits, reply)?;
-        self.replies.remove(p);
+        let mut replies = lend_replies!(self);
+        let reply = replies.find(p)?;
+        let mut mat = lend_mat!(self);
+        let acknowledged = mat.acknowledge(self.limits, reply)?;
+        self.numbers.oldest = mat.oldest;
+        replies.remove(p);
+        self.numbers.replies = replies.count;
         Ok(Counts {
             acknowledged,
             ..Counts::default()

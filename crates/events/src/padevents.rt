@@ -6,25 +6,32 @@ ghost use Rattle.events.specs.View.{sound_link, Moves};
 ghost use Rattle.events.specs.Lent.{lent_link, StaysLent, OldTaken};
 
 use crate::{Counts, LentLink};
+use air::lent::LentTable;
 use limits::answer::Refusal;
-use limits::messages::Reply;
+use limits::messages::{Data, Reply};
+use pad::lentpad::LentPad;
+use std::marker::PhantomData;
 
 impl LentLink<'_> {
     // Message p is an old row: it is replied to and leaves the data table: 18.
     fn take_old(&mut self, p: usize, number: usize) -> Result<Counts, Refusal>
-        requires { (sound_link (lent_link self.old) ≡ true) × (p < self.old.datas.count) × (number < 2 * self.old.limits.window) }
+        requires { (sound_link (lent_link self.old) ≡ true) × (p < self.old.numbers.datas) × (number < 2 * self.old.limits.window) }
         ensures lent { StaysLent self.old self.new }
         ensures moves { (b : List ℕ) → OldTaken (lent_link self.old) b p (record { first = number; last = number }) (lent_link self.new) result }
     {
-        if !self.replies.has_room() {
+        let mut replies = lend_replies!(self);
+        if !replies.has_room() {
             return Err(Refusal::ReplyTableFull);
         }
         let reply = Reply {
             first: number,
             last: number,
         };
-        self.replies.put(self.limits, reply);
-        self.datas.remove(p);
+        replies.put(self.limits, reply);
+        self.numbers.replies = replies.count;
+        let mut datas = lend_datas!(self);
+        datas.remove(p);
+        self.numbers.datas = datas.count;
         Ok(Counts::default())
     }
 
@@ -34,12 +41,15 @@ impl LentLink<'_> {
         ensures lent { StaysLent self.old self.new }
         ensures moves { (supply b : List ℕ) → Moves (lent_link self.old) supply b b (arrive_data p) (lent_link self.new) result }
     {
-        let data = self.datas.find(p)?;
-        if !self.pad.in_window(self.limits, data.number) {
+        let data = lend_datas!(self).find(p)?;
+        let mut pad = lend_pad!(self);
+        if !pad.in_window(self.limits, data.number) {
             return self.take_old(p, data.number);
         }
-        self.pad.hold(self.limits, data);
-        self.datas.remove(p);
+        pad.hold(self.limits, data);
+        let mut taken = lend_datas!(self);
+        taken.remove(p);
+        self.numbers.datas = taken.count;
         Ok(Counts::default())
     }
 
@@ -49,15 +59,19 @@ impl LentLink<'_> {
         ensures lent { StaysLent self.old self.new }
         ensures moves { (supply : List ℕ) → Moves (lent_link self.old) supply «record».old «record».new reply (lent_link self.new) result }
     {
-        let count = self.pad.run_length(self.limits)?;
+        let mut pad = lend_pad!(self);
+        let count = pad.run_length(self.limits)?;
         if record.len() < 16 * count {
             return Err(Refusal::RecordFull);
         }
-        if !self.replies.has_room() {
+        let mut replies = lend_replies!(self);
+        if !replies.has_room() {
             return Err(Refusal::ReplyTableFull);
         }
-        let run = self.pad.record_run(self.limits, count, record);
-        self.replies.put(self.limits, run);
+        let run = pad.record_run(self.limits, count, record);
+        self.numbers.wanted = pad.wanted;
+        replies.put(self.limits, run);
+        self.numbers.replies = replies.count;
         Ok(Counts {
             recorded: count,
             ..Counts::default()

@@ -10,13 +10,10 @@ ghost use Rattle.exports.specs.Calls.{capped, asked, limits_or_zeros, kind_of, c
 
 pub mod cpage;
 
-use air::lent::LentTable;
 use clinks::LentCLink;
 use events::{Counts, LentLink, Numbers};
 use limits::Limits;
 use limits::answer::Refusal;
-use mat::lentmat::LentMat;
-use pad::lentpad::LentPad;
 
 // A limit above 65535 is refused as 65535 is.
 fn capped_limit(x: u32) -> u16
@@ -80,24 +77,18 @@ fn kind_byte(kind: u32, argument: u32) -> u8
 
 // The link that is kept, its arrays lent where they are.
 macro_rules! lend {
-    ($link:expr, $n:expr, $marks:expr, $held:expr) => {
+    ($link:expr, $marks:expr, $held:expr) => {
         LentLink {
             limits: clinks::limits_of(*$link.head),
-            mat: LentMat {
-                oldest: $n.oldest,
-                next: $n.next,
-                marks: &mut $marks,
-                timers: &mut *$link.mattimer,
-                cells: &mut *$link.matcell,
-            },
-            pad: LentPad {
-                wanted: $n.wanted,
-                held: &mut $held,
-                timers: &mut *$link.padtimer,
-                cells: &mut *$link.padcell,
-            },
-            datas: LentTable::of($n.datas, &mut *$link.datas),
-            replies: LentTable::of($n.replies, &mut *$link.replies),
+            numbers: clinks::numbers_of(*$link.head),
+            marks: &mut $marks,
+            mattimers: &mut *$link.mattimer,
+            matcells: &mut *$link.matcell,
+            held: &mut $held,
+            padtimers: &mut *$link.padtimer,
+            padcells: &mut *$link.padcell,
+            datas: &mut *$link.datas,
+            replies: &mut *$link.replies,
         }
     };
 }
@@ -142,8 +133,7 @@ pub fn step(
 {
     let mut marks = clinks::marks_of(*link.matmark);
     let mut held = clinks::marks_of(*link.padmark);
-    let n = clinks::numbers_of(*link.head);
-    let mut lent = lend!(link, n, marks, held);
+    let mut lent = lend!(link, marks, held);
     let answer = runs::step(
         &mut lent,
         kind_byte(kind, argument),
@@ -177,8 +167,7 @@ pub fn run(
 {
     let mut marks = clinks::marks_of(*link.matmark);
     let mut held = clinks::marks_of(*link.padmark);
-    let n = clinks::numbers_of(*link.head);
-    let mut lent = lend!(link, n, marks, held);
+    let mut lent = lend!(link, marks, held);
     let answer = runs::run(&mut lent, events, supply, record, answers);
     let LentLink {
         limits,

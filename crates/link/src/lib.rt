@@ -6,36 +6,33 @@ ghost use Rattle.events.specs.View.{sound_link};
 ghost use Rattle.runs.specs.View.{Stepped, Ran};
 ghost use Rattle.link.specs.View.{fresh_link, renumbered, Opened};
 
-use air::lent::LentTable;
 use air::table::{DataTable, ReplyTable};
 use events::{Counts, LentLink, Link, Numbers};
 use limits::Limits;
 use limits::answer::Refusal;
 use mat::Mat;
-use mat::lentmat::LentMat;
 use pad::Pad;
-use pad::lentpad::LentPad;
 
 // A link's parts, its arrays lent where they are.
 macro_rules! lend {
     ($k:expr) => {
         LentLink {
             limits: $k.limits,
-            mat: LentMat {
+            numbers: Numbers {
                 oldest: $k.mat.oldest,
                 next: $k.mat.next,
-                marks: &mut $k.mat.marks,
-                timers: &mut $k.mat.timers,
-                cells: &mut $k.mat.cells,
-            },
-            pad: LentPad {
                 wanted: $k.pad.wanted,
-                held: &mut $k.pad.held,
-                timers: &mut $k.pad.timers,
-                cells: &mut $k.pad.cells,
+                datas: $k.datas.count,
+                replies: $k.replies.count,
             },
-            datas: LentTable::of($k.datas.count, &mut $k.datas.words),
-            replies: LentTable::of($k.replies.count, &mut $k.replies.words),
+            marks: &mut $k.mat.marks,
+            mattimers: &mut $k.mat.timers,
+            matcells: &mut $k.mat.cells,
+            held: &mut $k.pad.held,
+            padtimers: &mut $k.pad.timers,
+            padcells: &mut $k.pad.cells,
+            datas: &mut $k.datas.words,
+            replies: &mut $k.replies.words,
         }
     };
 }
@@ -91,7 +88,7 @@ pub fn step(
 {
     let mut lent = lend!(k);
     let result = runs::step(&mut lent, kind, argument, supply, record);
-    let numbers = lent.numbers();
+    let numbers = lent.numbers;
     renumber(k, numbers);
     result
 }
@@ -108,7 +105,7 @@ pub fn run(
 {
     let mut lent = lend!(k);
     let result = runs::run(&mut lent, events, supply, record, answers);
-    let numbers = lent.numbers();
+    let numbers = lent.numbers;
     renumber(k, numbers);
     result
 }

@@ -114,20 +114,6 @@ fn marked_run(marks: &[bool; 32], w: usize, from: usize, most: usize) -> usize
 
 // Where one place of an array is read or set, the array is named first, so that the check follows it and knows its length.
 impl LentMat<'_> {
-    pub fn is_sound(&self, l: Limits) -> bool
-        requires { sound_limits l ≡ true }
-        ensures { result ≡ sound_mat l (lent_mat self.now) }
-    {
-        mat_sound(
-            l,
-            self.oldest,
-            self.next,
-            self.marks,
-            self.timers,
-            self.cells,
-        )
-    }
-
     // The first row of the supply, where it may be sent: 10, 11, 12.
     pub fn next_row(&self, l: Limits, supply: &[u16]) -> Result<[u16; 16], Refusal>
         requires { SoundAt l (lent_mat self.now) }

@@ -99,14 +99,6 @@ fn write_run(buffer: &mut [u16], cells: &[u16; 512], w: usize, from: usize, coun
 }
 
 impl LentPad<'_> {
-    // Question 4 of the pad.
-    pub fn is_sound(&self, l: Limits) -> bool
-        requires { sound_limits l ≡ true }
-        ensures { result ≡ sound_pad l (lent_pad self.now) }
-    {
-        pad_sound(l, self.wanted, self.held, self.timers, self.cells)
-    }
-
     // Whether the number is one of the window. Any other is an old row's.
     pub fn in_window(&self, l: Limits, number: usize) -> bool
         requires { SoundAt l (lent_pad self.now) × (number < 2 * l.window) }

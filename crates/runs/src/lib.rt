@@ -9,17 +9,30 @@ ghost use Rattle.events.specs.View.{sound_link};
 ghost use Rattle.events.specs.Lent.{lent_link, StaysLent};
 ghost use Rattle.runs.specs.View.{lent_asks, Stepped, Ran};
 
+use air::lent;
 use events::{Counts, LentLink};
 use limits::answer::Refusal;
+use limits::messages::{Data, Reply};
+use mat::lentmat;
+use pad::lentpad;
 
 // Question 4.
 pub fn is_sound(link: &LentLink<'_>) -> bool
     ensures { result ≡ sound_link (lent_link link.now) }
 {
     let l = link.limits;
+    let n = link.numbers;
     limits::sound_limits(l)
-        && (link.mat.is_sound(l)
-            && (link.pad.is_sound(l) && (link.datas.is_sound(l) && link.replies.is_sound(l))))
+        && (lentmat::mat_sound(
+            l,
+            n.oldest,
+            n.next,
+            link.marks,
+            link.mattimers,
+            link.matcells,
+        ) && (lentpad::pad_sound(l, n.wanted, link.held, link.padtimers, link.padcells)
+            && (lent::table_sound::<Data>(l, n.datas, link.datas)
+                && lent::table_sound::<Reply>(l, n.replies, link.replies))))
 }
 
 // The call for one event: 4, 6, then the event's questions.

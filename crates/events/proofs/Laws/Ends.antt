@@ -1,7 +1,7 @@
 -- How a call on a link ends: refused, or done.
 use Prim.Native.Nat.{ℕ}
 use mathlib.Core.Path.{◌≡◌, refl, sym, ◌∙◌, ap}
-use mathlib.Core.Bool.{Bool, true}
+use mathlib.Core.Bool.{true}
 use mathlib.Core.List.{List}
 use lib.Dec.{eqb}
 use borrow.Author.Tests.{eq-eqb}
@@ -14,6 +14,7 @@ use Rattle.limits.specs.Questions.{pick, Question, first_no}
 use Rattle.limits.proofs.Laws.Choice.{pick_yes, pick_no}
 use Rattle.limits.proofs.Laws.Promise.{refusal-not-0, changed-refused, changed-handed_on, changed-as}
 use Rattle.mat.specs.declared.Mat.{Mat}
+use Rattle.mat.specs.View.{mat_of}
 use Rattle.events.specs.declared.Link.{Link}
 use Rattle.events.specs.declared.Counts.{Counts}
 use Rattle.events.specs.State.{Moved, no_counts, risen, unmoved}
@@ -42,9 +43,10 @@ call-as qs qs' moved moved' k k' before after r e m c = changed-as qs qs' r _ _ 
 pub zeros : (n : Counts) → (n.sent ≡ 0) × ((n.acknowledged ≡ 0) × (n.recorded ≡ 0)) → n ≡ no_counts
 zeros n e = λ i. record { sent = e.0 i; acknowledged = e.1.0 i; recorded = e.1.1 i }
 
--- a mat that came back as it was
-pub same-mat : (k : Link) (m : Mat) → m ≡ k.mat → record { limits = k.limits; mat = m; pad = k.pad; datas = k.datas; replies = k.replies } ≡ k
-same-mat k m e = λ i. record { limits = k.limits; mat = e i; pad = k.pad; datas = k.datas; replies = k.replies }
+-- a mat that came back as it was, its numbers not written back
+pub same-mat : (k : Link) (m : Mat) → m ≡ k.mat
+    → record { limits = k.limits; mat = mat_of k.mat.oldest k.mat.next m.marks m.timers m.cells; pad = k.pad; datas = k.datas; replies = k.replies } ≡ k
+same-mat k m e = λ i. record { limits = k.limits; mat = mat_of k.mat.oldest k.mat.next (e i).marks (e i).timers (e i).cells; pad = k.pad; datas = k.datas; replies = k.replies }
 
 -- a promise by another name of the event
 pub moves-as : (k : Link) (supply before after : List ℕ) (e e' : Event) (k' : Link) (r : Result Counts Refusal) → e ≡ e'

@@ -24,9 +24,8 @@ use Rattle.events.specs.declared.Counts.{Counts}
 use Rattle.events.specs.declared.Numbers.{Numbers}
 use Rattle.events.specs.View.{sound_link}
 use Rattle.events.proofs.Laws.Parts.{parts, mat-numbers, pad-number}
-use Rattle.events.specs.Lent.{numbers_of}
 use Rattle.link.specs.View.{fresh_link}
-use Rattle.clinks.specs.Links.{CLink, clink, bit, head_of, link_at, numbers_fit}
+use Rattle.clinks.specs.Links.{CLink, clink, bit, head_of, link_at, numbers_of, numbers_fit}
 use Rattle.clinks.proofs.Laws.Links.{stored_back}
 use Rattle.exports.specs.Calls.{limits_or_zeros, OpenCall, Leaves}
 

@@ -2,4 +2,4 @@ use Rattle.link.proofs.Laws.Lent.{put-back}
 use Rattle.link.proofs.step.Goals as goal
 
 pub returns : goal.returns
-returns c = let u = c.step-result in rw (put-back c.args.k.now u.new.link _ c.renumber.new.k u.ensures.lent.0 c.numbers-numbers.ensures c.renumber.ensures) u.ensures.stepped
+returns c = let u = c.step-result in rw (put-back c.args.k.now u.new.link c.renumber.new.k u.ensures.lent.0 c.renumber.ensures) u.ensures.stepped

@@ -77,8 +77,7 @@ outstanding-fits k h =
 
 -- what stayed and stayed again
 pub lent-on : (a b c : LentLink) → StaysLent a b → StaysLent b c → StaysLent a c
-lent-on a b c e f =
-    (f.0 ∙ e.0, (f.1.0 ∙ e.1.0, f.1.1 ∙ e.1.1, f.1.2 ∙ e.1.2), (f.2.0 ∙ e.2.0, f.2.1 ∙ e.2.1, f.2.2 ∙ e.2.2), f.3 ∙ e.3, f.4 ∙ e.4)
+lent-on a b c e f = (f.0 ∙ e.0, f.1 ∙ e.1, f.2 ∙ e.2, f.3 ∙ e.3, f.4 ∙ e.4, f.5 ∙ e.5, f.6 ∙ e.6, f.7 ∙ e.7, f.8 ∙ e.8)
 
 -- a refusal is not 0
 not-zero : (n : ℕ) → refuses n ≡ true → eqb n 0 ≡ false

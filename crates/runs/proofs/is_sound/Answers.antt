@@ -2,21 +2,21 @@ use Rattle.std.proofs.Common.{rules}
 use Rattle.events.specs.View.{sound_link}
 use Rattle.runs.proofs.is_sound.Goals as goal
 
-pub returns-then-is_sound-3 : goal.returns-then-is_sound-3
+pub returns-then-table_sound : goal.returns-then-table_sound
 unfolding sound_link
-returns-then-is_sound-3 c = search rules
+returns-then-table_sound c = search rules
 
-pub returns-else-is_sound-3 : goal.returns-else-is_sound-3
+pub returns-else-table_sound : goal.returns-else-table_sound
 unfolding sound_link
-returns-else-is_sound-3 c = search rules
+returns-else-table_sound c = search rules
 
-pub returns-else-is_sound-2 : goal.returns-else-is_sound-2
+pub returns-else-pad_sound : goal.returns-else-pad_sound
 unfolding sound_link
-returns-else-is_sound-2 c = search rules
+returns-else-pad_sound c = search rules
 
-pub returns-else-is_sound : goal.returns-else-is_sound
+pub returns-else-mat_sound : goal.returns-else-mat_sound
 unfolding sound_link
-returns-else-is_sound c = search rules
+returns-else-mat_sound c = search rules
 
 pub returns-else-sound_limits : goal.returns-else-sound_limits
 unfolding sound_link

@@ -5,14 +5,14 @@ use mathlib.Core.List.{[], ◌∷◌}
 use lib.Dec.{ltb}
 use lib.ListN.{length, get_or}
 use borrow.Author.Tests.{ltb-true}
-use Rattle.limits.specs.Questions.{ask}
+use Rattle.limits.specs.Questions.{pick, ask}
 use Rattle.limits.specs.Tables.{capacity, no_data}
 use Rattle.limits.proofs.Laws.Promise.{refusal-not-0}
 use Rattle.limits.proofs.Laws.Questions.{more_stays}
 use Rattle.limits.proofs.Laws.Messages.{message-low}
 use Rattle.pad.specs.Rules.{arrival}
 use Rattle.pad.specs.View.{pad_state}
-use Rattle.pad.proofs.Laws.Calls.{arrival-new, arrival-old}
+use Rattle.pad.proofs.Laws.Calls.{with-number, arrival-new, arrival-old}
 use Rattle.air.specs.Rules.{place_questions}
 use Rattle.air.specs.Data.{data_messages}
 use Rattle.air.specs.Replies.{reply_messages}
@@ -56,6 +56,7 @@ remove-requires c = let k = lent_link c.args.self.now in let u = c.in_ok-data in
     (omega arith, (data-below k.datas c.args.p (there data_form k.limits k.datas c.args.p u.data u.ensures), count-few data_form _ _ _ (parts k c.requires).datas))
 
 pub returns-clause-moves : goal.returns-clause-moves
-returns-clause-moves c = λ supply b. let k = lent_link c.args.self.now in let p = parts k c.requires in let u = c.in_ok-data in let held = c.hold.ensures.moves in
+unfolding pad_state pick
+returns-clause-moves c = λ supply b. let k = lent_link c.args.self.now in let p = parts k c.requires in let u = c.in_ok-data in let held = with-number k.limits k.pad.wanted _ _ refl c.hold.ensures.moves in
     rw (zeros _ c.default.ensures)
     (new-arrives k p _ u.data u.ensures _ (arrival-new k.limits k.pad _ _ (sym c.if-not-in_window.ensures) held.1) _ held.0 refl _ (c.remove.ensures.removed k.limits p.datas) refl supply b)

@@ -44,6 +44,6 @@ remove-requires c = let k = lent_link c.args.self.now in let p = parts k c.requi
 
 pub returns-clause-moves : goal.returns-clause-moves
 returns-clause-moves c = λ supply b. let k = lent_link c.args.self.now in let p = parts k c.requires in
-    let a = rw c.in_ok-acknowledged.was at c.acknowledge.ensures.acknowledges in
+    let a = rw c.acknowledge.ensures.stays at (rw c.in_ok-acknowledged.was at c.acknowledge.ensures.acknowledges) in
     rw (c.default.ensures.0, c.default.ensures.1.1)
     (acknowledged k p _ c.in_ok-reply.reply c.in_ok-reply.ensures _ _ a _ supply b (c.remove.ensures.removed k.limits p.replies))

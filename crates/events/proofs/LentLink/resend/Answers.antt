@@ -51,4 +51,4 @@ returns-clause-moves c = λ supply b. let k = lent_link c.args.self.now in let p
     let v = c.again-again.ensures.resends c.args.k c.in_ok-number.ensures in
     let sound = ap (sound_data k.limits) v.answered.value ∙ resending-sound k.limits k.mat p.limits p.mat c.args.k (sym v.answered.number) in
     rw (zeros _ c.default.ensures)
-    (sends k p _ _ _ _ v _ no_counts b refl (data-room k.datas _ (sym c.if-not-has_room.ensures)) (c.put.ensures.put p.datas sound))
+    (sends k p _ _ _ _ (rw (c.again-again.ensures.stays.0, c.again-again.ensures.stays.1) at v) _ no_counts b refl (data-room k.datas _ (sym c.if-not-has_room.ensures)) (c.put.ensures.put p.datas sound))

@@ -2,7 +2,7 @@ use native.Mathlib.Omega.{arith}
 use mathlib.Core.Path.{refl, sym, ◌∙◌, ap}
 use borrow.Author.Tests.{ltb-true}
 use Rattle.limits.specs.Lists.{all}
-use Rattle.limits.specs.Tables.{Data, sound_data}
+use Rattle.limits.specs.Tables.{sound_data}
 use Rattle.limits.proofs.Laws.Promise.{refusal-not-0}
 use Rattle.limits.proofs.Laws.Questions.{more_stays, more-fails}
 use Rattle.mat.specs.Rules.{send_questions}
@@ -50,4 +50,4 @@ returns-clause-moves c = λ b. let k = lent_link c.args.self.now in let p = part
     let v = c.keep-data.ensures.sends c.args.supply.now c.in_ok-row.ensures in
     let sound = ap (sound_data k.limits) v.answered.value ∙ sending-sound k.limits k.mat p.limits p.mat c.args.supply.now (sym v.answered.number) in
     rw (c.default.ensures.1.0, c.default.ensures.1.1)
-    (sends k p _ _ _ _ v _ one_sent b refl (data-room k.datas _ (sym c.if-not-has_room.ensures)) (c.put.ensures.put p.datas sound))
+    (sends k p _ _ _ _ (rw c.keep-data.ensures.stays at v) _ one_sent b refl (data-room k.datas _ (sym c.if-not-has_room.ensures)) (c.put.ensures.put p.datas sound))

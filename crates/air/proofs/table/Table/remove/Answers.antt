@@ -8,12 +8,11 @@ pub remove-requires : goal.remove-requires
 remove-requires g c =
     let t = c.args.self.now in
     let h = there g.M.Carried.form c.args.l t.count t.words c.args.p (sym c.read.ensures.number ∙ ap number_of c.in_ok-read.was) in
-    (omega arith, rw c.of-lent.ensures.count (h.below, h.few))
+    (omega arith, (h.below, h.few))
 
 pub returns : goal.returns
 returns g c =
     let t = c.args.self.now in
     let none = sym c.read.ensures.number ∙ ap number_of c.in_ok-read.was in
-    let h = rw (c.of-lent.ensures.count, c.of-lent.ensures.words) at (c.remove.ensures.removed c.args.l) in
-    let k = h (there g.M.Carried.form c.args.l t.count t.words c.args.p none).sound in
+    let k = c.remove.ensures.removed c.args.l (there g.M.Carried.form c.args.l t.count t.words c.args.p none).sound in
     changed-done _ _ _ _ _ _ none k.1 k.0
