@@ -123,6 +123,7 @@ impl Carried for Data {
         let row = self.row;
         let mut message = [0; 18];
         message[0] = life;
+        // Stays (no plainer): `as` narrows a number whose bound is proved; `try_from` would give an error that cannot be.
         message[1] = self.number as u16;
         rows::copy(&mut message, 2, &row);
         tables::put(words, 18, count, &message);
@@ -172,6 +173,7 @@ impl Carried for Reply {
     }
 
     fn write(self, life: u16, words: &mut [u16], count: usize) {
+        // Stays (no plainer): as in `Data`.
         let message = [life, self.first as u16, self.last as u16];
         tables::put(words, 3, count, &message);
     }

@@ -1,5 +1,6 @@
 // Inner: called by frames, lines, page and report. Bytes written into a lent buffer: what the buffer then holds, and the place
 // behind them. Writers answer with the count, or with a refusal (`WriteCall`).
+// Stays (no plainer): a writer takes the whole buffer and a place, and not the rest behind it, since it promises the whole buffer.
 #![tactic(auto)]
 
 ghost use Rattle.std.specs.Prelude.{◌+◌, ◌≤◌, length};

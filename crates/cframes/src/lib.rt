@@ -15,6 +15,7 @@ use limits::messages::{Data, Reply};
 pub fn read(frame: &[u8], head: &mut [u16; 5], cells: &mut [u16; 16]) -> u8
     ensures { ReadFrame frame.now head.old cells.old head.new cells.new result }
 {
+    // Stays (no plainer): each `as` narrows a number whose bound is proved; `try_from` would give an error that cannot be.
     match frames::read(frame) {
         Ok(Frame::Data(f)) => {
             let Data { number, row } = f.data;
@@ -37,6 +38,7 @@ fn frame_in(head: &[u16; 5], cells: &[u16; 16]) -> Result<Frame, Refusal>
     ensures { Answered (kind_questions head.now) result (frame_in head.now cells.now) }
 {
     let [kind, life, window, first, last] = *head;
+    // Stays (C interface): a frame's kind is a number in its head.
     match kind {
         1 => Ok(Frame::Data(DataFrame {
             life,

@@ -61,6 +61,7 @@ pub fn numbers_of(h: [u16; 10]) -> Numbers
     }
 }
 
+// Stays (no plainer): each `as` narrows a number whose bound is proved; `try_from` would give an error that cannot be.
 pub fn head_of(l: Limits, n: Numbers) -> [u16; 10]
     requires { numbers_fit l n }
     ensures { result ≡ head_of l n }

@@ -1,4 +1,5 @@
 // The mat's calls.
+// Stays (no plainer): a try is handed its values one by one.
 use limits::Limits;
 use limits::messages::Reply;
 use mat::Mat;

@@ -14,6 +14,7 @@ use std::marker::PhantomData;
 
 impl LentLink<'_> {
     // Message p leaves the data table: 17.
+    // Stays (no plainer): this event and the next are two of document 01, each with a table of its own.
     pub fn lose_data(&mut self, p: usize) -> Result<Counts, Refusal>
         requires { sound_link (lent_link self.old) ≡ true }
         ensures lent { StaysLent self.old self.new }

@@ -61,6 +61,7 @@ impl LentLink<'_> {
     }
 
     // An event of two bytes: 8, 9, then the questions of its kind.
+    // Stays (no plainer): any two bytes may be asked for, here and in the calls above; which event they are is asked here.
     pub fn event(
         &mut self,
         kind: u8,

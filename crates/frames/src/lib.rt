@@ -32,6 +32,7 @@ use limits::answer::Refusal;
 use limits::messages::{Data, Reply};
 use std::array;
 
+// Stays (no plainer): two layouts with other fields, each with its questions; `Frame` picks one.
 #[derive(Clone, Copy, Debug, PartialEq, Eq)]
 pub struct DataFrame {
     pub life: u16,
@@ -174,6 +175,7 @@ fn put_cells(buffer: &mut [u8], row: [u16; 16])
     }
 }
 
+// Stays (no plainer): each `as` narrows a number whose bound is proved; `try_from` would give an error that cannot be.
 fn put_data(f: &DataFrame, buffer: &mut [u8])
     requires { (first_no (data_questions f.now) ≡ 0) × (36 ≤ length buffer.old) }
     ensures { buffer.new ≡ data_into f.now buffer.old }

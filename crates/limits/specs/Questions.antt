@@ -1,5 +1,5 @@
 -- Questions are put in order. The first one answered no gives the number, and 0 means done.
-use Rattle.std.specs.Prelude.{ℕ, ◌≡◌, Bool, true, false, List, [], ◌∷◌, eqb, leb, Result, IfOk, OnOk, OnErr}
+use Rattle.std.specs.Prelude.{ℕ, ◌≡◌, Bool, true, false, List, [], ◌∷◌, leb, Result, IfOk, OnOk, OnErr}
 use Rattle.limits.specs.declared.answer.Refusal.{Refusal}
 use Rattle.limits.specs.Answer.{number_of}
 
@@ -34,21 +34,6 @@ pub record Changed {S V X : Type 0} (questions : List Question) (result : Result
 -- An answer with nothing beside it.
 abbrev pub Answer : Type 0
 Answer = Result (Unit {0}) Refusal
-
--- A call that puts `questions` answers with the first no. What it shows is `done` where all were passed, and `refused` where one was not.
-pub record Answers {X : Type 0} (questions : List Question) (answer : Answer) (shown done refused : X) : Type 0 where
-  pub number : number_of answer ≡ first_no questions
-  pub result : shown ≡ pick (eqb (first_no questions) 0) done refused
-
--- A refused call hands the state back exactly as it was given, and every call hands a sound state back sound.
-pub record Keeps {S : Type 0} (questions : List Question) (sound : S → Bool) (before after : S) : Type 0 where
-  pub kept : (first_no questions ≡ 0 → ⊥) → after ≡ before
-  pub stays : sound before ≡ true → sound after ≡ true
-
--- what a call promises that takes a state and hands it back
-pub record Called {S X : Type 0} (questions : List Question) (answer : Answer) (shown done refused : X) (sound : S → Bool) (before after : S) : Type 0 where
-  pub answers : Answers questions answer shown done refused
-  pub keeps : Keeps questions sound before after
 
 -- time passes by d ticks
 abbrev pub time_questions : ℕ → List Question

@@ -113,6 +113,8 @@ pub fn accept(l: Limits) -> Result<Limits, Refusal>
 }
 
 // Question 4 of limits.
+// Stays (no plainer): that limits are sound is a clause of the inner functions and no type: each public call takes limits as they come
+// and asks, so that it would make the value and each law take it apart.
 pub fn sound_limits(l: Limits) -> bool
     ensures { result ≡ sound_limits l }
 {

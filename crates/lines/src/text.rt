@@ -36,6 +36,7 @@ fn field(buffer: &mut [u8], at: usize, n: u8, text: &[u8]) -> usize
     buffers::word(buffer, next, text)
 }
 
+// Stays (no plainer): the bytes are printed as they came, those of unknown kinds too.
 pub fn event_line(buffer: &mut [u8], at: usize, kind: u8, argument: u8, answer: u8) -> usize
     requires { at + 12 ≤ length buffer.old }
     ensures { Wrote at (event_line kind argument answer) buffer.old buffer.new result }

@@ -81,6 +81,7 @@ fn rows_sound(l: Limits, oldest: usize, next: usize, timers: &[u16; 32], cells: 
 }
 
 // The numbers first: the marks and rows to look at lie by them.
+// Stays (no plainer): it takes the parts one by one, since a mat that is only looked at lends nothing.
 pub fn mat_sound(
     l: Limits,
     oldest: usize,

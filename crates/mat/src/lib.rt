@@ -17,6 +17,7 @@ use limits::messages::{Data, Reply};
 
 // `oldest` and `next` are numbers modulo 2w: the first unacknowledged row and the one to be sent. Row m stands at place m mod w,
 // beside its mark (acknowledged) and its resend timer (retransmission timer).
+// Stays (C interface): an array for each part of a place, as the struct of programs in C has them.
 #[derive(Clone, Copy)]
 pub struct Mat {
     pub oldest: usize,

@@ -1,6 +1,5 @@
 // Inner: called by the pad's public calls, events and runs. The pad's events where question 4 has been put and passed, on a pad
 // whose arrays are lent and change in place.
-// Stays (C interface): a number and references, since C lends the members of its own struct.
 #![tactic(auto, using(limits::proofs::Laws::Good::good, crate::proofs::Laws::Sound::facts, crate::proofs::Laws::Run::known))]
 
 ghost use Rattle.std.specs.Prelude.{◌≡◌, Bool, true, false, ◌&&◌, ◌++◌, ◌+◌, ◌*◌, ◌%◌, ◌<◌, ◌≤◌, ltb, length, get_or, drop, IsTrue, ◌↔◌};
@@ -54,6 +53,7 @@ fn cells_sound(held: &[bool; 32], cells: &[u16; 512], w: usize) -> bool
 }
 
 // Question 4 of the pad, by its parts, since a pad that is only looked at cannot lend its arrays.
+// Stays (no plainer): it takes the parts one by one, since a pad that is only looked at lends nothing.
 pub fn pad_sound(
     l: Limits,
     wanted: usize,

@@ -18,6 +18,7 @@ use limits::messages::{Data, Reply};
 
 // `wanted` is the number, modulo 2w, of the first row that is not recorded. Row m stands at place m mod w, beside its mark (held)
 // and its reply timer.
+// Stays (C interface): an array for each part of a place, as in `Mat`.
 #[derive(Clone, Copy)]
 pub struct Pad {
     pub wanted: usize,

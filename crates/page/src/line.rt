@@ -7,6 +7,7 @@ ghost use Rattle.page.specs.Page.{shade, printed, column, number_text, line_text
 fn shade(cell: u16) -> u8
     ensures { (result ≡ shade cell) × (result ≤ 159) }
 {
+    // Stays (no plainer): each `as` here narrows a number whose bound is proved; `try_from` would give an error that cannot be.
     (u32::from(cell) * 10 / 4096) as u8
 }
 

@@ -1,4 +1,5 @@
 // The calls of the two tables.
+// Stays (no plainer): the two tables are tried with other values.
 use air::table::{DataTable, ReplyTable};
 use limits::messages::{Data, Message, Reply};
 use std::io;

@@ -16,6 +16,7 @@ fn lines_of(output: &mut [u8], events: &[u8], answers: &[u8], counts: Counts) ->
         ++ counts_line counts.sent counts.acknowledged counts.recorded) output.old output.new result }
 {
     let next = lines::text::event_lines(output, 0, events, answers);
+    // Stays (no plainer): each `as` narrows a number whose bound is proved; `try_from` would give an error that cannot be.
     let sent = counts.sent as u8;
     let acknowledged = counts.acknowledged as u8;
     let recorded = counts.recorded as u8;

@@ -6,6 +6,7 @@ ghost use Rattle.limits.specs.Tables.{sound_data, sound_reply};
 use limits::messages::{Data, Reply};
 use limits::{Limits, ring};
 
+// Stays (no plainer): the two below are two questions, of other fields.
 pub fn data_sound(l: Limits, data: Data) -> bool
     requires { sound_limits l ≡ true }
     ensures { result ≡ sound_data l «data» }

@@ -14,11 +14,6 @@ pub pick_no : {A : Type 0} (b : Bool) (x y z : A) → b ≡ false → y ≡ z �
 unfolding pick
 pick_no b x y z e h = rw e h
 
-pub pick_under : {X Y : Type 0} (f : X → Y) (b : Bool) (x y : X) → f (pick b x y) ≡ pick b (f x) (f y)
-unfolding pick
-pick_under f true x y = refl
-pick_under f false x y = refl
-
 pub pick-cases : {A : Type 0} (P : A → Type 0) (b : Bool) (x y : A) → (b ≡ true → P x) → (b ≡ false → P y) → P (pick b x y)
 unfolding pick
 pick-cases P true x y f g = f refl
