@@ -1,4 +1,5 @@
-// Inner: called by exports. Frames for programs in C, as a head of five numbers (kind, life, w, number or first, last) and sixteen cells.
+// Inner: called by exports_c. Frames for programs in C, as a head of five numbers (kind, life, w, number or first, last) and
+// sixteen cells.
 #![tactic(auto)]
 
 ghost use Rattle.std.specs.Prelude.{◌≡◌};

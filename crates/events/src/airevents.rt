@@ -1,4 +1,4 @@
-// Inner: called by an event's dispatch. The events of the air: a message is lost, time passes. The link passed question 4.
+// Inner: called by `act` (event). The events of the air: a message is lost, time passes. The link passed question 4.
 ghost use Rattle.std.specs.Prelude.{◌≡◌, true, List, ℕ};
 ghost use Rattle.limits.specs.Events.{lose_data, lose_reply, tick};
 ghost use Rattle.events.specs.View.{sound_link, Moves};

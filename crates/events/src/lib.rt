@@ -75,7 +75,8 @@ pub struct Numbers {
     pub replies: usize,
 }
 
-// A link whose arrays are lent: those of the mat, those of the pad, and the words of the two tables.
+// A link whose arrays are lent: those of the mat, those of the pad, and the words of the two tables. It holds the references itself:
+// of those in a struct inside it, whoever lends would not learn what was written.
 #[derive(Drop)]
 pub struct LentLink<'a> {
     pub limits: Limits,

@@ -1,4 +1,4 @@
-// Inner: called by an event's dispatch. The events at the mat: send, resend, a reply arrives. The link passed question 4.
+// Inner: called by `act` (event). The events at the mat: send, resend, a reply arrives. The link passed question 4.
 ghost use Rattle.std.specs.Prelude.{◌≡◌, true, List, ℕ};
 ghost use Rattle.limits.specs.Events.{send, resend, arrive_reply};
 ghost use Rattle.events.specs.View.{sound_link, Moves};

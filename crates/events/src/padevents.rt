@@ -1,4 +1,4 @@
-// Inner: called by an event's dispatch. The events at the pad: data arrives, a reply for the run at wanted. The link passed
+// Inner: called by `act` (event). The events at the pad: data arrives, a reply for the run at wanted. The link passed
 // question 4.
 ghost use Rattle.std.specs.Prelude.{◌≡◌, true, List, [], ℕ, ◌*◌, ◌<◌};
 ghost use Rattle.limits.specs.Events.{arrive_data, reply};

@@ -119,8 +119,8 @@ fn told(answer: Result<Counts, Refusal>, counts: &mut [usize; 3]) -> u8
     limits::answer::number(&answer)
 }
 
-// Stays (C interface): the counts are an array of their own beside what is lent, here and in the two below.
 // One event: 4, 6, then the event's questions. The counts are written always, the link where the answer is 0.
+// Stays (C interface): the counts are an array of their own beside what is lent, here and in the two below.
 pub fn step(
     link: &mut LentCLink<'_>,
     kind: u32,

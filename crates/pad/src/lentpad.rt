@@ -2,7 +2,7 @@
 // whose arrays are lent and change in place.
 #![tactic(auto, using(limits::proofs::Laws::Good::good, crate::proofs::Laws::Sound::facts, crate::proofs::Laws::Run::known))]
 
-ghost use Rattle.std.specs.Prelude.{◌≡◌, Bool, true, false, ◌&&◌, ◌++◌, ◌+◌, ◌*◌, ◌%◌, ◌<◌, ◌≤◌, ltb, length, get_or, drop, IsTrue, ◌↔◌};
+ghost use Rattle.std.specs.Prelude.{◌≡◌, List, ℕ, Bool, true, false, ◌&&◌, ◌++◌, ◌+◌, ◌*◌, ◌%◌, ◌<◌, ◌≤◌, ltb, length, get_or, drop, IsTrue, ◌↔◌};
 ghost use Rattle.limits.specs.Lists.{tab, leading, joined};
 ghost use Rattle.limits.specs.Cells.{row_at, legal_row};
 ghost use Rattle.limits.specs.Questions.{pick, Answered};
@@ -84,6 +84,24 @@ fn ready_run(held: &[bool; 32], timers: &[u16; 32], w: usize, from: usize) -> us
     w
 }
 
+// The length of the run at wanted: 20.
+pub fn run_length(
+    l: Limits,
+    wanted: usize,
+    held: &[bool; 32],
+    timers: &[u16; 32],
+) -> Result<usize, Refusal>
+    requires { (sound_limits l ≡ true) × (wanted < 2 * l.window) }
+    ensures { (cells : List ℕ) → (let s = pad_state l.window (pad_of wanted held.now timers.now cells) in Answered (run_questions s) result (run s)) }
+{
+    let w = l.window;
+    let count = ready_run(held, timers, w, ring::slot(w, wanted));
+    if count == 0 {
+        return Err(Refusal::NothingReady);
+    }
+    Ok(count)
+}
+
 // Writes `count` rows from place `from` on, round the ring, to the front of `buffer`.
 fn write_run(buffer: &mut [u16], cells: &[u16; 512], w: usize, from: usize, count: usize)
     requires { (w ≤ 32) × (from < w) × (count ≤ w) × (16 * count ≤ length buffer.old) }
@@ -129,12 +147,7 @@ impl LentPad<'_> {
         requires { SoundAt l (lent_pad self.now) }
         ensures { let s = pad_state l.window (lent_pad self.now) in Answered (run_questions s) result (run s) }
     {
-        let w = l.window;
-        let count = ready_run(self.held, self.timers, w, ring::slot(w, self.wanted));
-        if count == 0 {
-            return Err(Refusal::NothingReady);
-        }
-        Ok(count)
+        run_length(l, self.wanted, self.held, self.timers)
     }
 
     // The run of `count` rows at wanted is recorded and passed. The reply covers it.

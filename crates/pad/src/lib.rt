@@ -99,9 +99,7 @@ impl Pad {
         if !self.is_sound(l) {
             return Err(Refusal::Unsound);
         }
-        // A pad that is only looked at cannot lend its arrays.
-        let mut copy = *self;
-        lend!(copy).run_length(l)
+        lentpad::run_length(l, self.wanted, &self.held, &self.timers)
     }
 
     // A reply for the run of rows at wanted, which are written to the record's front: 4, 20, 21.
