@@ -10,6 +10,7 @@ use limits::Limits;
 use std::array;
 
 // A link that a program in C lends, in the order of its struct.
+// Stays (C interface): an array for each part of a place.
 #[derive(Drop)]
 pub struct LentCLink<'a> {
     pub head: &'a mut [u16; 10],

@@ -138,6 +138,7 @@ pub fn step(
     let answer = runs::step(
         &mut lent,
         kind_byte(kind, argument),
+        // Stays (no plainer): of an argument above 255 the kind is 0, so that no one looks at the byte.
         (argument % 256) as u8,
         supply,
         record,

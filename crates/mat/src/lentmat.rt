@@ -52,6 +52,7 @@ fn numbers_sound(w: usize, oldest: usize, next: usize) -> bool
     oldest < 2 * w && next < 2 * w && ring::gap(2 * w, oldest, next) <= w
 }
 
+// Stays (no plainer): what this and the two behind it need of the numbers, `numbers_sound` has just asked.
 fn marked_sound(w: usize, oldest: usize, next: usize, marks: &[bool; 32]) -> bool
     requires { (1 ≤ w) × (w ≤ 32) × (oldest < 2 * w) × (next < 2 * w) × (distance (2 * w) oldest next ≤ w) }
     ensures { (timers cells : List ℕ) → result ≡ sound_marks w (mat_of oldest next marks.now timers cells) }

@@ -1,4 +1,5 @@
 // Inner: called by page. One line, written at a place of a buffer that has room.
+// Stays (no plainer): writers at a place, as those of `buffers`.
 ghost use Rattle.std.specs.Prelude.{◌≡◌, ◌++◌, map, ◌+◌, ◌≤◌, length, take, drop};
 ghost use Rattle.buffers.specs.Ascii.{space};
 ghost use Rattle.buffers.specs.Buffers.{wrote};

@@ -19,6 +19,7 @@ pub fn read(cells: &[u16], at: usize) -> [u16; 16]
     row
 }
 
+// Stays (no plainer): the library's method on a part, with a promise of the whole.
 pub fn copy(xs: &mut [u16], at: usize, words: &[u16])
     requires { at + length words.now ≤ length xs.old }
     ensures { xs.new ≡ pasted at words.now xs.old }
