@@ -27,7 +27,7 @@ macro_rules! lend {
 }
 
 // Message p stands at p times the words of a message, its life first.
-// Stays (fixed memory): a count beside words, which programs in C lend as they are.
+// Stays (fixed memory): a count beside an array of words, here and in what lends them; programs in C have both apart.
 #[derive(Clone, Copy)]
 pub struct Table<M, const N: usize> {
     pub count: usize,

@@ -18,6 +18,10 @@ impl LentLink<'_> {
     pub fn lose_data(&mut self, p: usize) -> Result<Counts, Refusal>
         requires { sound_link (lent_link self.old) ≡ true }
         ensures lent { StaysLent self.old self.new }
+        ensures untouched { (self.new.marks.now ≡ self.old.marks.now) × (self.new.mattimers.now ≡ self.old.mattimers.now)
+            × (self.new.matcells.now ≡ self.old.matcells.now) × (self.new.held.now ≡ self.old.held.now)
+            × (self.new.padtimers.now ≡ self.old.padtimers.now) × (self.new.padcells.now ≡ self.old.padcells.now)
+            × (self.new.replies.now ≡ self.old.replies.now) }
         ensures moves { (supply b : List ℕ) → Moves (lent_link self.old) supply b b (lose_data p) (lent_link self.new) result }
     {
         if self.numbers.datas <= p {
@@ -33,6 +37,10 @@ impl LentLink<'_> {
     pub fn lose_reply(&mut self, p: usize) -> Result<Counts, Refusal>
         requires { sound_link (lent_link self.old) ≡ true }
         ensures lent { StaysLent self.old self.new }
+        ensures untouched { (self.new.marks.now ≡ self.old.marks.now) × (self.new.mattimers.now ≡ self.old.mattimers.now)
+            × (self.new.matcells.now ≡ self.old.matcells.now) × (self.new.held.now ≡ self.old.held.now)
+            × (self.new.padtimers.now ≡ self.old.padtimers.now) × (self.new.padcells.now ≡ self.old.padcells.now)
+            × (self.new.datas.now ≡ self.old.datas.now) }
         ensures moves { (supply b : List ℕ) → Moves (lent_link self.old) supply b b (lose_reply p) (lent_link self.new) result }
     {
         if self.numbers.replies <= p {
@@ -48,6 +56,8 @@ impl LentLink<'_> {
     pub fn tick(&mut self, d: u16) -> Result<Counts, Refusal>
         requires { sound_link (lent_link self.old) ≡ true }
         ensures lent { StaysLent self.old self.new }
+        ensures untouched { (self.new.marks.now ≡ self.old.marks.now) × (self.new.matcells.now ≡ self.old.matcells.now)
+            × (self.new.held.now ≡ self.old.held.now) × (self.new.padcells.now ≡ self.old.padcells.now) }
         ensures moves { (supply b : List ℕ) → Moves (lent_link self.old) supply b b (tick d) (lent_link self.new) result }
     {
         lend_mat!(self).tick(self.limits, d);

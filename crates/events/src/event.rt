@@ -22,6 +22,7 @@ pub enum Event {
 
 impl Event {
     // The event of a kind and an argument: 8, 9.
+    // Stays (no plainer): any two bytes may be asked for, here and in the calls above; which event they are is asked here.
     pub fn read(kind: u8, argument: u8) -> Result<Event, Refusal>
         ensures { ReadAs kind argument result }
     {
@@ -61,7 +62,6 @@ impl LentLink<'_> {
     }
 
     // An event of two bytes: 8, 9, then the questions of its kind.
-    // Stays (no plainer): any two bytes may be asked for, here and in the calls above; which event they are is asked here.
     pub fn event(
         &mut self,
         kind: u8,

@@ -2,6 +2,7 @@
 #![tactic(auto)]
 
 // The parts of a lent link, each with its arrays lent on. Whoever changes a part writes its numbers back.
+// Stays (no plainer): each part has fields of its own.
 macro_rules! lend_mat {
     ($link:expr) => {
         LentMat {

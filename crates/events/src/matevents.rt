@@ -16,6 +16,9 @@ impl LentLink<'_> {
     pub fn send(&mut self, supply: &[u16]) -> Result<Counts, Refusal>
         requires { sound_link (lent_link self.old) ≡ true }
         ensures lent { StaysLent self.old self.new }
+        ensures untouched { (self.new.marks.now ≡ self.old.marks.now) × (self.new.held.now ≡ self.old.held.now)
+            × (self.new.padtimers.now ≡ self.old.padtimers.now) × (self.new.padcells.now ≡ self.old.padcells.now)
+            × (self.new.replies.now ≡ self.old.replies.now) }
         ensures moves { (b : List ℕ) → Moves (lent_link self.old) supply.now b b send (lent_link self.new) result }
     {
         let mut mat = lend_mat!(self);
@@ -38,6 +41,9 @@ impl LentLink<'_> {
     pub fn resend(&mut self, k: usize) -> Result<Counts, Refusal>
         requires { sound_link (lent_link self.old) ≡ true }
         ensures lent { StaysLent self.old self.new }
+        ensures untouched { (self.new.marks.now ≡ self.old.marks.now) × (self.new.matcells.now ≡ self.old.matcells.now)
+            × (self.new.held.now ≡ self.old.held.now) × (self.new.padtimers.now ≡ self.old.padtimers.now)
+            × (self.new.padcells.now ≡ self.old.padcells.now) × (self.new.replies.now ≡ self.old.replies.now) }
         ensures moves { (supply b : List ℕ) → Moves (lent_link self.old) supply b b (resend k) (lent_link self.new) result }
     {
         let mut mat = lend_mat!(self);
@@ -56,6 +62,9 @@ impl LentLink<'_> {
     pub fn arrive_reply(&mut self, p: usize) -> Result<Counts, Refusal>
         requires { sound_link (lent_link self.old) ≡ true }
         ensures lent { StaysLent self.old self.new }
+        ensures untouched { (self.new.mattimers.now ≡ self.old.mattimers.now) × (self.new.matcells.now ≡ self.old.matcells.now)
+            × (self.new.held.now ≡ self.old.held.now) × (self.new.padtimers.now ≡ self.old.padtimers.now)
+            × (self.new.padcells.now ≡ self.old.padcells.now) × (self.new.datas.now ≡ self.old.datas.now) }
         ensures moves { (supply b : List ℕ) → Moves (lent_link self.old) supply b b (arrive_reply p) (lent_link self.new) result }
     {
         let mut replies = lend_replies!(self);

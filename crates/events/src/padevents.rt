@@ -17,6 +17,9 @@ impl LentLink<'_> {
     fn take_old(&mut self, p: usize, number: usize) -> Result<Counts, Refusal>
         requires { (sound_link (lent_link self.old) ≡ true) × (p < self.old.numbers.datas) × (number < 2 * self.old.limits.window) }
         ensures lent { StaysLent self.old self.new }
+        ensures untouched { (self.new.marks.now ≡ self.old.marks.now) × (self.new.mattimers.now ≡ self.old.mattimers.now)
+            × (self.new.matcells.now ≡ self.old.matcells.now) × (self.new.held.now ≡ self.old.held.now)
+            × (self.new.padtimers.now ≡ self.old.padtimers.now) × (self.new.padcells.now ≡ self.old.padcells.now) }
         ensures moves { (b : List ℕ) → OldTaken (lent_link self.old) b p (record { first = number; last = number }) (lent_link self.new) result }
     {
         let mut replies = lend_replies!(self);
@@ -39,6 +42,8 @@ impl LentLink<'_> {
     pub fn arrive_data(&mut self, p: usize) -> Result<Counts, Refusal>
         requires { sound_link (lent_link self.old) ≡ true }
         ensures lent { StaysLent self.old self.new }
+        ensures untouched { (self.new.marks.now ≡ self.old.marks.now) × (self.new.mattimers.now ≡ self.old.mattimers.now)
+            × (self.new.matcells.now ≡ self.old.matcells.now) }
         ensures moves { (supply b : List ℕ) → Moves (lent_link self.old) supply b b (arrive_data p) (lent_link self.new) result }
     {
         let data = lend_datas!(self).find(p)?;
@@ -57,6 +62,9 @@ impl LentLink<'_> {
     pub fn reply(&mut self, record: &mut [u16]) -> Result<Counts, Refusal>
         requires { sound_link (lent_link self.old) ≡ true }
         ensures lent { StaysLent self.old self.new }
+        ensures untouched { (self.new.marks.now ≡ self.old.marks.now) × (self.new.mattimers.now ≡ self.old.mattimers.now)
+            × (self.new.matcells.now ≡ self.old.matcells.now) × (self.new.padtimers.now ≡ self.old.padtimers.now)
+            × (self.new.padcells.now ≡ self.old.padcells.now) × (self.new.datas.now ≡ self.old.datas.now) }
         ensures moves { (supply : List ℕ) → Moves (lent_link self.old) supply «record».old «record».new reply (lent_link self.new) result }
     {
         let mut pad = lend_pad!(self);

@@ -94,6 +94,7 @@ macro_rules! lend {
 }
 
 // The numbers and the marks that a call left, where the link keeps them.
+// Stays (C interface): the marks of mat and pad are arrays, as in the C struct.
 fn write_back(
     link: &mut LentCLink<'_>,
     limits: Limits,
@@ -120,7 +121,7 @@ fn told(answer: Result<Counts, Refusal>, counts: &mut [usize; 3]) -> u8
 }
 
 // One event: 4, 6, then the event's questions. The counts are written always, the link where the answer is 0.
-// Stays (C interface): the counts are an array of their own beside what is lent, here and in the two below.
+// Stays (C interface): kind, argument, buffers and counts are handed over one by one, here and in the two below.
 pub fn step(
     link: &mut LentCLink<'_>,
     kind: u32,
@@ -138,7 +139,7 @@ pub fn step(
     let answer = runs::step(
         &mut lent,
         kind_byte(kind, argument),
-        // Stays (no plainer): of an argument above 255 the kind is 0, so that no one looks at the byte.
+        // Stays (no plainer): the argument is taken modulo 256, as the promise says.
         (argument % 256) as u8,
         supply,
         record,

@@ -58,6 +58,7 @@ fn one(rt: &impl Print, bytes: &[u8]) -> io::Result<()> {
 
 fn all(rt: &impl Print, input: &[u8]) -> io::Result<()> {
     let mut rest = input;
+    // Stays (no plainer): frames are taken off the front, each of its own length; no index is counted.
     while let Some((&size, behind)) = rest.split_first() {
         let Some((frame, next)) = behind.split_at_checked(usize::from(size)) else {
             break;

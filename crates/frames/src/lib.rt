@@ -146,6 +146,7 @@ fn laid_out(bytes: &[u8]) -> Result<Frame, Refusal>
     if bytes.is_empty() {
         return Err(Refusal::UnknownFrame);
     }
+    // Stays (no plainer): the first byte of a frame is its kind; `Frame` is what it stands for.
     match (bytes[0], bytes.len()) {
         (1, 36) => Ok(Frame::Data(data_of(bytes))),
         (2, 5) => Ok(Frame::Reply(reply_of(bytes))),

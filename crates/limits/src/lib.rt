@@ -61,6 +61,7 @@ fn sum_of_times(l: Limits) -> u16
     l.datalife + l.replylife + l.replywait
 }
 
+// Stays (no plainer): the least wait that question 3 takes and the one that 0 stands for are two rules, alike today.
 fn least_wait(l: Limits) -> u16
     requires { times_fit l ≡ true }
     ensures { result ≡ least_wait l }
@@ -68,7 +69,6 @@ fn least_wait(l: Limits) -> u16
     sum_of_times(l) + 1
 }
 
-// Stays (no plainer): what a wait of 0 stands for and the least that question 3 takes are two rules, alike today.
 fn default_wait(l: Limits) -> u16
     requires { times_fit l ≡ true }
     ensures { result ≡ default_wait l }

@@ -58,6 +58,7 @@ pub fn open(asked: Limits) -> Result<Link, Refusal>
 }
 
 // Question 4.
+// Stays (no plainer): the link is handed over by value, since one that is only looked at lends nothing.
 pub fn sound(k: Link) -> bool
     ensures { result ≡ sound_link k }
 {
@@ -77,6 +78,7 @@ fn renumber(k: &mut Link, n: Numbers)
 }
 
 // The call for one event: 4, 6, then the event's questions.
+// Stays (no plainer): this and `run` are two calls with other arguments, between the same two lines.
 pub fn step(
     k: &mut Link,
     kind: u8,

@@ -17,6 +17,7 @@ use limits::messages::{Data, Reply};
 use limits::{Limits, ring};
 
 // The mat's numbers, and its arrays, which are lent.
+// Stays (C interface): an array for each part of a place, as in `Mat`.
 #[derive(Drop)]
 pub struct LentMat<'a> {
     pub oldest: usize,
@@ -27,6 +28,7 @@ pub struct LentMat<'a> {
 }
 
 // Whether the marks of `count` numbers from place `from` on, round the ring, are off: a span to the ring's end and one from place 0.
+// Stays (no plainer): `legal_rows` looks at the same numbers in other units.
 fn unmarked(marks: &[bool; 32], w: usize, from: usize, count: usize) -> bool
     requires { (w ≤ 32) × (from < w) × (count ≤ w) }
     ensures { result ≡ all not (tab count (λ i. get_or marks.now ((from + i) % w) false)) }
@@ -100,6 +102,7 @@ pub fn mat_sound(
 }
 
 // How many of `most` numbers from place `from` on, round the ring, are marked, up to the first that is not.
+// Stays (no plainer): the place goes round the ring beside the count.
 fn marked_run(marks: &[bool; 32], w: usize, from: usize, most: usize) -> usize
     requires { (w ≤ 32) × (from < w) }
     ensures { result ≡ leading (λ (b : Bool). b) (tab most (λ i. get_or marks.now ((from + i) % w) false)) }
@@ -141,6 +144,7 @@ impl LentMat<'_> {
         requires { SoundAt l (lent_mat self.old) }
         ensures lent { StaysLent self.old self.new }
         ensures stays { self.new.oldest ≡ self.old.oldest }
+        ensures untouched { self.new.marks.now ≡ self.old.marks.now }
         ensures sends { (supply : List ℕ) → (let s = mat_state l.window (lent_mat self.old) in
             Answered (send_questions l s supply) (Ok row) (take 16 supply)
             → SendCall l (send_questions l s supply) (Ok result) (sending l s supply) (lent_mat self.old) (lent_mat self.new)) }
@@ -178,14 +182,17 @@ impl LentMat<'_> {
         Ok(number)
     }
 
+    // Stays (no plainer): a number that is handed over, here and below, is below 2w by what answered it or by the message it stands in.
     // The timer of the kept row under `number`, which is due, is set again. Gives the row's message.
     pub fn again(&mut self, l: Limits, number: usize) -> Data
         requires { SoundAt l (lent_mat self.old) × (number < 2 * l.window) }
         ensures lent { StaysLent self.old self.new }
         ensures stays { (self.new.oldest ≡ self.old.oldest) × (self.new.next ≡ self.old.next) }
-        ensures resends { (k : ℕ) → (let s = mat_state l.window (lent_mat self.old) in
-            Answered (resend_questions l s k) (Ok number) (step (2 * l.window) self.old.oldest k)
-            → SendCall l (resend_questions l s k) (Ok result) (resending l s k) (lent_mat self.old) (lent_mat self.new)) }
+        ensures untouched { (self.new.marks.now ≡ self.old.marks.now) × (self.new.cells.now ≡ self.old.cells.now) }
+        ensures resends { (k : ℕ) → k < outstanding_of l.window (lent_mat self.old) → number ≡ step (2 * l.window) self.old.oldest k
+            → (sound_mat l (lent_mat self.new) ≡ true)
+            × (record { state = mat_state l.window (lent_mat self.new); message = result }
+            ≡ resending l (mat_state l.window (lent_mat self.old)) k) }
     {
         let at = ring::slot(l.window, number);
         let timers: &mut [u16] = self.timers;
@@ -201,6 +208,7 @@ impl LentMat<'_> {
             × (distance (2 * l.window) self.old.oldest first + count ≤ outstanding_of l.window (lent_mat self.old)) }
         ensures lent { StaysLent self.old self.new }
         ensures stays { self.new.next ≡ self.old.next }
+        ensures untouched { (self.new.timers.now ≡ self.old.timers.now) × (self.new.cells.now ≡ self.old.cells.now) }
         ensures passes { (sound_mat l (lent_mat self.new) ≡ true)
             × (record { state = mat_state l.window (lent_mat self.new); passed = result }
             ≡ passing l (mat_state l.window (lent_mat self.old)) (distance (2 * l.window) self.old.oldest first) count) }
@@ -220,6 +228,7 @@ impl LentMat<'_> {
         requires { SoundAt l (lent_mat self.old) × (sound_reply l reply ≡ true) }
         ensures lent { StaysLent self.old self.new }
         ensures stays { self.new.next ≡ self.old.next }
+        ensures untouched { (self.new.timers.now ≡ self.old.timers.now) × (self.new.cells.now ≡ self.old.cells.now) }
         ensures acknowledges { (let s = mat_state l.window (lent_mat self.old) in
             AcknowledgeCall l (acknowledge_questions l s reply) result (acknowledging l s reply)
             (lent_mat self.old) (lent_mat self.new)) }
@@ -238,6 +247,7 @@ impl LentMat<'_> {
         requires { SoundAt l (lent_mat self.old) }
         ensures lent { StaysLent self.old self.new }
         ensures stays { (self.new.oldest ≡ self.old.oldest) × (self.new.next ≡ self.old.next) }
+        ensures untouched { (self.new.marks.now ≡ self.old.marks.now) × (self.new.cells.now ≡ self.old.cells.now) }
         ensures ticks { (sound_mat l (lent_mat self.new) ≡ true)
             × (mat_state l.window (lent_mat self.new) ≡ ticked d (mat_state l.window (lent_mat self.old))) }
     {

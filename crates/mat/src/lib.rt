@@ -17,7 +17,7 @@ use limits::messages::{Data, Reply};
 
 // `oldest` and `next` are numbers modulo 2w: the first unacknowledged row and the one to be sent. Row m stands at place m mod w,
 // beside its mark (acknowledged) and its resend timer (retransmission timer).
-// Stays (C interface): an array for each part of a place, as the struct of programs in C has them.
+// Stays (C interface): an array for each part of a place, as in the struct of programs in C.
 #[derive(Clone, Copy)]
 pub struct Mat {
     pub oldest: usize,
@@ -122,6 +122,7 @@ impl Mat {
     }
 
     // Every resend timer falls by d: 4, 9.
+    // Stays (no plainer): the tick of a pad has the same words; a trait of this one call would need the laws of both.
     pub fn tick(&mut self, l: Limits, d: u16) -> Result<(), Refusal>
         ensures { TickCall l (ask 4 (sound_limits l && sound_mat l self.old) ∷ time_questions d)
             result (ticked d (mat_state l.window self.old)) self.old self.new }

@@ -17,6 +17,7 @@ use limits::messages::{Data, Reply};
 use limits::{Limits, ring};
 
 // The pad's number, and its arrays, which are lent.
+// Stays (C interface): an array for each part of a place, as in `Pad`.
 #[derive(Drop)]
 pub struct LentPad<'a> {
     pub wanted: usize,
@@ -52,8 +53,8 @@ fn cells_sound(held: &[bool; 32], cells: &[u16; 512], w: usize) -> bool
     rows::none_set(held, 0, 32) || held_sound(held, cells, w)
 }
 
-// Question 4 of the pad, by its parts, since a pad that is only looked at cannot lend its arrays.
-// Stays (no plainer): it takes the parts one by one, since a pad that is only looked at lends nothing.
+// Question 4 of the pad.
+// Stays (no plainer): this and `run_length` take the parts one by one, since a pad that is only looked at lends nothing.
 pub fn pad_sound(
     l: Limits,
     wanted: usize,
@@ -69,6 +70,7 @@ pub fn pad_sound(
 }
 
 // How many rows from place `from` on, round the ring, are ready.
+// Stays (no plainer): the run of marked numbers in mat has another test in each step, which its promise names.
 fn ready_run(held: &[bool; 32], timers: &[u16; 32], w: usize, from: usize) -> usize
     requires { (w ≤ 32) × (from < w) }
     ensures { result ≡ leading (λ (b : Bool). b)
@@ -155,6 +157,7 @@ impl LentPad<'_> {
         requires { SoundAt l (lent_pad self.old) × (0 < count) × (count ≡ run (pad_state l.window (lent_pad self.old)))
             × (16 * count ≤ length buffer.old) }
         ensures lent { StaysLent self.old self.new }
+        ensures untouched { (self.new.timers.now ≡ self.old.timers.now) × (self.new.cells.now ≡ self.old.cells.now) }
         ensures moves { (sound_pad l (lent_pad self.new) ≡ true)
             × (record { state = pad_state l.window (lent_pad self.new); count = count; reply = result; buffer = buffer.new }
             ≡ replying l (pad_state l.window (lent_pad self.old)) buffer.old) }
@@ -175,6 +178,7 @@ impl LentPad<'_> {
     pub fn tick(&mut self, l: Limits, d: u16)
         requires { SoundAt l (lent_pad self.old) }
         ensures lent { StaysLent self.old self.new }
+        ensures untouched { (self.new.held.now ≡ self.old.held.now) × (self.new.cells.now ≡ self.old.cells.now) }
         ensures moves { Shows l (lent_pad self.new) (ticked d (pad_state l.window (lent_pad self.old))) }
     {
         rows::fall(self.timers, l.window, d);

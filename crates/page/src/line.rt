@@ -1,5 +1,6 @@
 // Inner: called by page. One line, written at a place of a buffer that has room.
-// Stays (no plainer): writers at a place, as those of `buffers`.
+// Stays (fixed memory): writers at a place, as those of `buffers`, and digits one by one, since `write!` gives an error that no
+// contract rules out.
 ghost use Rattle.std.specs.Prelude.{◌≡◌, ◌++◌, map, ◌+◌, ◌≤◌, length, take, drop};
 ghost use Rattle.buffers.specs.Ascii.{space};
 ghost use Rattle.buffers.specs.Buffers.{wrote};

@@ -90,7 +90,6 @@ module _ (l : Limits) (m : Mat) (k number : ℕ)
       let b = step_fits (2 * l.window) m.oldest k (omega arith) in
       let i = c.value in omega arith
 
-  pub resend-done : (m' : Mat) (row : List ℕ) → sound_mat l m' ≡ true
-      → record { state = mat_state l.window m'; message = record { number = number; row = row } } ≡ resending l (mat_state l.window m) k
-      → SendCall l (resend_questions l (mat_state l.window m) k) (Ok (record { number = number; row = row })) (resending l (mat_state l.window m) k) m m'
-  resend-done m' row s h = sent _ _ _ _ _ _ c.number s h
+  pub resend-done : (m' : Mat) (x : Data) → (sound_mat l m' ≡ true) × (record { state = mat_state l.window m'; message = x } ≡ resending l (mat_state l.window m) k)
+      → SendCall l (resend_questions l (mat_state l.window m) k) (Ok x) (resending l (mat_state l.window m) k) m m'
+  resend-done m' x h = sent _ _ _ _ _ _ c.number h.0 h.1

@@ -7,7 +7,7 @@ use Rattle.limits.proofs.Laws.Promise.{refusal-not-0}
 use Rattle.limits.proofs.Laws.Questions.{more_stays, more-fails}
 use Rattle.mat.specs.Rules.{resend_questions}
 use Rattle.mat.specs.View.{mat_state}
-use Rattle.mat.proofs.Laws.Calls.{due-low}
+use Rattle.mat.proofs.Laws.Calls.{due-there, due-low, resend-done}
 use Rattle.mat.proofs.Laws.Messages.{resending-sound}
 use Rattle.air.specs.Laws.{data_laws}
 use Rattle.air.specs.Rules.{room_questions}
@@ -41,14 +41,16 @@ again-again-requires c = let k = lent_link c.args.self.now in let p = parts k c.
 
 pub put-requires : goal.put-requires
 put-requires c = let k = lent_link c.args.self.now in let p = parts k c.requires in
-    let v = c.again-again.ensures.resends c.args.k c.in_ok-number.ensures in
+    let e = c.in_ok-number.ensures in
+    let v = resend-done k.limits k.mat c.args.k _ e _ _ (c.again-again.ensures.resends c.args.k (due-there k.limits k.mat c.args.k _ e) e.value) in
     let sound = ap (sound_data k.limits) v.answered.value ∙ resending-sound k.limits k.mat p.limits p.mat c.args.k (sym v.answered.number) in
     (omega arith, (p.limits, ltb-true k.datas.count 32 (sym c.if-not-has_room.ensures), data_laws.sound_fits k.limits _ p.limits sound))
 
 pub returns-clause-moves : goal.returns-clause-moves
 unfolding link_state all
 returns-clause-moves c = λ supply b. let k = lent_link c.args.self.now in let p = parts k c.requires in
-    let v = c.again-again.ensures.resends c.args.k c.in_ok-number.ensures in
+    let e = c.in_ok-number.ensures in
+    let v = resend-done k.limits k.mat c.args.k _ e _ _ (c.again-again.ensures.resends c.args.k (due-there k.limits k.mat c.args.k _ e) e.value) in
     let sound = ap (sound_data k.limits) v.answered.value ∙ resending-sound k.limits k.mat p.limits p.mat c.args.k (sym v.answered.number) in
     rw (zeros _ c.default.ensures)
     (sends k p _ _ _ _ (rw (c.again-again.ensures.stays.0, c.again-again.ensures.stays.1) at v) _ no_counts b refl (data-room k.datas _ (sym c.if-not-has_room.ensures)) (c.put.ensures.put p.datas sound))

@@ -1,6 +1,6 @@
 use Rattle.limits.proofs.Laws.Choice.{two}
 use Rattle.limits.proofs.Laws.Promise.{changed-unsound, changed-sound, changed-handed_on}
-use Rattle.mat.proofs.Laws.Calls.{due-low}
+use Rattle.mat.proofs.Laws.Calls.{due-there, due-low, resend-done}
 use mathlib.Core.Path.{refl, sym}
 use Rattle.mat.proofs.Mat.resend.Goals as goal
 
@@ -16,4 +16,4 @@ again-requires c = let t = two _ _ (sym c.if-not-is_sound.ensures) in (t, due-lo
 
 pub returns : goal.returns
 returns c =
-    changed-sound _ _ _ _ _ _ _ _ _ (sym c.if-not-is_sound.ensures) (rw (c.again.ensures.stays.0, c.again.ensures.stays.1) at (c.again.ensures.resends c.args.k c.in_ok-number.ensures))
+    changed-sound _ _ _ _ _ _ _ _ _ (sym c.if-not-is_sound.ensures) (rw (c.again.ensures.stays.0, c.again.ensures.stays.1) at (let e = c.in_ok-number.ensures in resend-done c.args.l c.args.self.now c.args.k _ e _ _ (c.again.ensures.resends c.args.k (due-there c.args.l c.args.self.now c.args.k _ e) e.value)))

@@ -1,5 +1,4 @@
 use Rattle.mat.specs.View.{lent_mat}
-use Rattle.mat.proofs.Laws.Calls.{due-there, resend-done}
 use Rattle.mat.proofs.Laws.Resend.{timed-sound, timed-shown}
 use Rattle.mat.proofs.Laws.Sound.{facts}
 use lib.ListN.{length}
@@ -8,9 +7,8 @@ use Rattle.std.proofs.Common.{rules}
 use Rattle.mat.proofs.lentmat.LentMat.again.Goals as goal
 
 pub returns-clause-resends : goal.returns-clause-resends
-returns-clause-resends c = λ k e. let m = lent_mat c.args.self.now in
+returns-clause-resends c = λ k h e. let m = lent_mat c.args.self.now in
     let f = facts _ m c.requires.0.0 c.requires.0.1 in
-    let h = due-there c.args.l m _ _ e in
     let t : length m.timers ≡ 32 = search rules in
     let p = c.slot-at.ensures in
-    resend-done c.args.l m _ _ e _ _ (timed-sound _ m _ _ _ f h t e.value p _ _ refl c.load-row.ensures) (timed-shown _ m _ _ _ f h t e.value p _ _ refl c.load-row.ensures)
+    (timed-sound _ m _ _ _ f h t e p _ _ refl c.load-row.ensures, timed-shown _ m _ _ _ f h t e p _ _ refl c.load-row.ensures)
