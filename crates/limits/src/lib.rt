@@ -61,6 +61,7 @@ fn sum_of_times(l: Limits) -> u16
     l.datalife + l.replylife + l.replywait
 }
 
+// Stays (no plainer): that the times fit is a clause of what is asked behind them, since the questions are put in order.
 // Stays (no plainer): the least wait that question 3 takes and the one that 0 stands for are two rules, alike today.
 fn least_wait(l: Limits) -> u16
     requires { times_fit l ≡ true }

@@ -1,5 +1,7 @@
 // Inner: called by tables, air, mat, pad and frames. Work on rows of 16 cells and on arrays of 32 entries, each helper with what
 // it needs alone.
+// Stays (no plainer): that a place or a width lies in its array is a clause of each function, here and above: a type for places would
+// be made of each number and taken apart at each index.
 #![tactic(auto)]
 
 ghost use Rattle.std.specs.Prelude.{◌≡◌, ◌+◌, ◌-◌, ◌≤◌, ◌<◌, ◌%◌, length, take, drop, get_or, false, not, leb};

@@ -1,5 +1,6 @@
 // Inner: called by air. A table of messages as a lent slice of words: message p stands at width * p, its life first. What is
 // written here serves tables of every width.
+// Stays (no plainer): that messages have a width and lie in the words is a clause of each function, as in `rows`.
 #![tactic(auto)]
 
 ghost use Rattle.std.specs.Prelude.{◌≡◌, ◌+◌, ◌-◌, ◌*◌, ◌≤◌, ◌<◌, length};
