@@ -61,9 +61,7 @@ impl LentLink<'_> {
         }
     }
 
-    // An event of two bytes: 8, 9, then the questions of its kind. It is put into the loop of a run and into the call for one event:
-    // a call of it takes some 30 instructions of 160.
-    #[inline(always)]
+    // An event of two bytes: 8, 9, then the questions of its kind.
     pub fn event(
         &mut self,
         kind: u8,

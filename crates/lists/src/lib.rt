@@ -3,21 +3,27 @@
 
 ghost use Rattle.std.specs.Prelude.{◌≡◌, true, ◌+◌, ◌/◌, ◌%◌, ◌^◌, ◌<◌, ◌≤◌, length, take};
 ghost use Rattle.limits.specs.Lists.{all};
-ghost use Rattle.events.specs.State.{added};
+ghost use Rattle.events.specs.State.{risen, added};
 ghost use Rattle.events.specs.View.{sound_link, link_state};
 ghost use Rattle.events.specs.Lent.{lent_link, StaysLent};
 ghost use Rattle.lists.specs.View.{refuses, running};
 
 use events::{Counts, LentLink};
+use limits::answer::Refusal;
 
-fn sum(a: Counts, b: Counts) -> Counts
-    requires { (a.sent + b.sent < 2 ^ 64) × (a.acknowledged + b.acknowledged < 2 ^ 64) × (a.recorded + b.recorded < 2 ^ 64) }
-    ensures { result ≡ added a b }
+// The counts so far and those of one event, which are none where it was refused.
+fn raised(counts: Counts, answer: Result<Counts, Refusal>) -> Counts
+    requires { (counts.sent + (risen answer).sent < 2 ^ 64) × (counts.acknowledged + (risen answer).acknowledged < 2 ^ 64)
+        × (counts.recorded + (risen answer).recorded < 2 ^ 64) }
+    ensures { result ≡ added counts (risen answer) }
 {
-    Counts {
-        sent: a.sent + b.sent,
-        acknowledged: a.acknowledged + b.acknowledged,
-        recorded: a.recorded + b.recorded,
+    match answer {
+        Ok(more) => Counts {
+            sent: counts.sent + more.sent,
+            acknowledged: counts.acknowledged + more.acknowledged,
+            recorded: counts.recorded + more.recorded,
+        },
+        Err(_) => counts,
     }
 }
 
@@ -46,7 +52,7 @@ pub fn run_events(
             &mut record[16 * counts.recorded..],
         );
         answers[i] = limits::answer::number(&result);
-        counts = sum(counts, result.unwrap_or_default());
+        counts = raised(counts, result);
     }
     counts
 }

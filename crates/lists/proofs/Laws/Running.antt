@@ -29,14 +29,8 @@ use Rattle.lists.specs.Runs.{continued, next, after_all, answers}
 use Rattle.events.specs.View.{link_state, sound_link, Moves}
 use Rattle.lists.specs.View.{refuses, running}
 use Rattle.events.proofs.Laws.Parts.{parts}
-use Rattle.events.proofs.Laws.Ends.{zeros, shows}
-use Rattle.std.specs.Result.{ResultUnwrapsOrElse}
+use Rattle.events.proofs.Laws.Ends.{shows}
 use Rattle.lists.proofs.Laws.Rises.{rises-of}
-
--- the counts that an answer holds, and none where it is a refusal
-pub risen-is : (r : Result Counts Refusal) (n : Counts) → ResultUnwrapsOrElse r (λ n. (n.sent ≡ 0) × ((n.acknowledged ≡ 0) × (n.recorded ≡ 0))) n → n ≡ risen r
-risen-is (Ok m) n e = e
-risen-is (Err x) n e = zeros n e
 
 abbrev pub reached : Link → Counts → List ℕ → Moved
 reached link counts rec = record { state = link_state link; counts = counts; buffer = rec }
@@ -203,16 +197,15 @@ module _ (bytes supply rec₀ ans₀ : List ℕ) (k : Link) (rec ans : List ℕ)
       (moves-with link _ _ _ _ after (event (get_or bytes (2 * i) 0) (get_or bytes (2 * i + 1) 0)) link' r (part-rest supply (16 * counts.sent)) (part-rest rec (16 * counts.recorded)) m)
       (kept ∙ ap length (part-rest rec (16 * counts.recorded))))
 
-  pub turn : (more sum : Counts) → more ≡ risen r → sum ≡ added counts more → Going bytes supply rec₀ ans₀ k whole (set ans i n) link' sum (i + 1)
-  turn more sum d e = rw (e, d) turned
+  pub turn : (sum : Counts) → sum ≡ added counts (risen r) → Going bytes supply rec₀ ans₀ k whole (set ans i n) link' sum (i + 1)
+  turn sum e = rw e turned
 
   -- the counts stay far from the end of their range
-  pub counts-fit : (more : Counts) → more ≡ risen r → sound_link k ≡ true → length supply + 32 < 18446744073709551616 → length rec < 18446744073709551616
-      → (counts.sent + more.sent < 18446744073709551616) × (counts.acknowledged + more.acknowledged < 18446744073709551616)
-      × (counts.recorded + more.recorded < 18446744073709551616)
-  counts-fit more d s a b =
+  pub counts-fit : sound_link k ≡ true → length supply + 32 < 18446744073709551616 → length rec < 18446744073709551616
+      → (counts.sent + (risen r).sent < 18446744073709551616) × (counts.acknowledged + (risen r).acknowledged < 18446744073709551616)
+      × (counts.recorded + (risen r).recorded < 18446744073709551616)
+  counts-fit s a b =
       let t = turned in let o = outstanding-fits k s in
-      rw d
       (let q = t.sent in omega arith, let q = t.balance in let q' = t.sent in omega arith, let q = t.recorded in let q' = t.same-record in let q'' = g.same-record in omega arith)
 
 -- the loop's end

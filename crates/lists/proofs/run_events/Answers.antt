@@ -1,15 +1,15 @@
 use native.Mathlib.Omega.{arith}
-use Rattle.lists.proofs.Laws.Running.{room, turn, counts-fit, risen-is, lent-on, finishes}
+use Rattle.lists.proofs.Laws.Running.{room, turn, counts-fit, lent-on, finishes}
 use Rattle.lists.proofs.run_events.Goals as goal
 
-pub sum-counts-requires : goal.sum-counts-requires
-sum-counts-requires c = let g = c.loop-i.invariant.going in let r = room _ _ _ _ _ _ _ _ _ _ g c.loop-i-test.true c.requires.1 c.requires.2 in
-    counts-fit _ _ _ _ _ _ _ _ _ _ g r.event r.answer _ _ _ c.event-result.ensures.moves c.event-result.auto.record c.number.result c.number.ensures _ (risen-is c.event-result.result _ c.unwrap_or_default.ensures) c.requires.0 (omega arith) (omega (arith, g.same-record))
+pub raised-counts-requires : goal.raised-counts-requires
+raised-counts-requires c = let g = c.loop-i.invariant.going in let r = room _ _ _ _ _ _ _ _ _ _ g c.loop-i-test.true c.requires.1 c.requires.2 in
+    counts-fit _ _ _ _ _ _ _ _ _ _ g r.event r.answer _ _ _ c.event-result.ensures.moves c.event-result.auto.record c.number.result c.number.ensures c.requires.0 (omega arith) (omega (arith, g.same-record))
 
 pub loop-i-preserved : goal.loop-i-preserved
 loop-i-preserved c = let g = c.loop-i.invariant.going in let r = room _ _ _ _ _ _ _ _ _ _ g c.loop-i-test.true c.requires.1 c.requires.2 in record {
   lent = lent-on c.args.link.now c.loop-i.link c.event-result.new.self c.loop-i.invariant.lent c.event-result.ensures.lent;
-  going = turn _ _ _ _ _ _ _ _ _ _ g r.event r.answer _ _ _ c.event-result.ensures.moves c.event-result.auto.record c.number.result c.number.ensures _ _ (risen-is c.event-result.result _ c.unwrap_or_default.ensures) c.sum-counts.ensures;
+  going = turn _ _ _ _ _ _ _ _ _ _ g r.event r.answer _ _ _ c.event-result.ensures.moves c.event-result.auto.record c.number.result c.number.ensures _ c.raised-counts.ensures;
 }
 
 pub returns-clause-ran : goal.returns-clause-ran
