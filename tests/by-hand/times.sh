@@ -22,7 +22,7 @@ echo "all crates, one at a time: $SECONDS s"
 
 # lines NAME PATH..: lines of definitions, without empty lines, comments and `use` lines
 lines() { echo "$1: $(cat "${@:2}" | grep -cvE '^ *(--.*)?$|^use |^pub mod ')"; }
-specs() { for c in "$@"; do find "crates/$c/specs" -name '*.antt'; done; }
+specs() { for c in "$@"; do find "crates/$c/specs" -name '*.antt' ! -name Laws.antt; done; } # Laws are proofs
 lines 'a ride' $(specs limits unbounded ride)
 lines 'the link and demand 3' crates/events/specs/{State,Rules,View}.antt $(specs lists runs link) $(specs agreement)
 lines 'the parts' $(specs tables air mat pad)
