@@ -1,10 +1,15 @@
 // Inner: called by rows. Cells and their one legal range.
-ghost use Rattle.std.specs.Prelude.{◌≡◌, eqb};
+ghost use Rattle.std.specs.Prelude.{◌≡◌, leb};
 ghost use Rattle.limits.specs.Cells.{legal_cell};
+ghost use Rattle.limits.specs.declared.cells.TheConstants.{LEGAL};
 
-// By how much a cell lies above the legal ones, 0 for a legal one. A loop over cells gathers these in fewer instructions than tests.
-pub fn excess(cell: u16) -> u16
-    ensures { eqb result 0 ≡ legal_cell cell }
+// the greatest level of a legal cell
+pub const LEGAL: u16 = 4095;
+
+// Legal cells have the lowest levels. A loop over cells keeps the greatest level and tests it once, in fewer instructions than a test
+// of each cell takes.
+pub fn level(cell: u16) -> u16
+    ensures { leb result LEGAL ≡ legal_cell cell }
 {
-    if 4095 <= cell { cell - 4095 } else { 0 }
+    cell
 }

@@ -49,11 +49,11 @@ pub fn legal_cells(cells: &[u16], from: usize, to: usize) -> bool
     requires { (from ≤ to) × (to ≤ length cells.now) }
     ensures { result ≡ all legal_cell (take (to - from) (drop from cells.now)) }
 {
-    let mut over = 0;
+    let mut most = 0;
     for cell in &cells[from..to] {
-        over |= limits::cells::excess(*cell);
+        most = most.max(limits::cells::level(*cell));
     }
-    over == 0
+    most <= limits::cells::LEGAL
 }
 
 pub fn legal_row(row: [u16; 16]) -> bool

@@ -1,39 +1,39 @@
--- Laws on legal cells, as a loop gathers them.
-use Prim.Native.Nat.{ℕ, ◌+◌, ◌-◌, ◌≤◌}
+-- Laws on legal cells, as a loop finds them.
+use Prim.Native.Nat.{ℕ, ◌+◌, max}
 use mathlib.Core.Path.{◌≡◌, sym, ◌∙◌, ap}
-use mathlib.Core.Bool.{true, ◌&&◌}
+use mathlib.Core.Bool.{◌&&◌}
 use native.Mathlib.Omega.{arith}
-use lib.Dec.{eqb}
-use lib.Bits.{bit_or, or_add_and, and_le_l, and_le_r}
-use borrow.Author.Tests.{le-leb, lt-leb, eq-eqb, ne_eqb, eqb-true, eqb-false}
+use lib.Dec.{leb}
+use borrow.Author.Tests.{le-leb, lt-leb}
+use Rattle.std.specs.Ordering.{ord_max, nat_cmp}
+use Rattle.std.proofs.Common.{Less, Equal, Greater}
+use Rattle.std.specs.Cmp.{nat_cmp_is}
 use Rattle.limits.specs.Cells.{legal_cell}
 use Rattle.limits.specs.Lists.{tab, all}
-use Rattle.limits.proofs.Laws.Choice.{test, split, and-no-left, and-no-right}
+use Rattle.limits.proofs.Laws.Choice.{split, both, and-no-left, and-no-right}
 use Rattle.limits.proofs.Laws.Lists.{flag-turn}
 
--- a cell from 4095 on is legal where nothing is above it
-pub excess-none : (c : ℕ) → 4095 ≤ c → eqb (c - 4095) 0 ≡ legal_cell c
-unfolding legal_cell
-excess-none c h =
-    split c 4095
-    (λ low. eq-eqb (c - 4095) 0 (omega arith) ∙ sym (le-leb c 4095 low))
-    (λ high. ne_eqb (c - 4095) 0 (λ e. omega arith) ∙ sym (lt-leb c 4095 high))
+-- what `max` gives
+pub greater : (a b : ℕ) → ord_max nat_cmp a b ≡ max a b
+greater a b =
+    split a b
+    (λ x. split b a
+    (λ y. rw (sym (nat_cmp_is b a Equal (omega arith))) (omega arith))
+    (λ y. rw (sym (nat_cmp_is b a Greater y)) (omega arith)))
+    (λ x. rw (sym (nat_cmp_is b a Less x)) (omega arith))
 
-pub low-legal : (c : ℕ) → c ≤ 4095 → true ≡ legal_cell c
-unfolding legal_cell
-low-legal c h = sym (le-leb c 4095 h)
+-- the greater of two is at most n where both are
+pub max_at_most : (a b n : ℕ) → leb (max a b) n ≡ (leb a n && leb b n)
+max_at_most a b n =
+    split a n
+    (λ x. split b n
+    (λ y. le-leb (max a b) n (omega arith) ∙ sym (both _ _ (le-leb a n x) (le-leb b n y)))
+    (λ y. lt-leb (max a b) n (omega arith) ∙ sym (and-no-right _ _ (lt-leb b n y))))
+    (λ x. lt-leb (max a b) n (omega arith) ∙ sym (and-no-left _ _ (lt-leb a n x)))
 
--- two numbers have no bit where each is 0
-pub none_or : (a b : ℕ) → eqb (bit_or a b) 0 ≡ (eqb a 0 && eqb b 0)
-none_or a b =
-    let s = or_add_and a b in let l = and_le_l a b in let r = and_le_r a b in
-    test (eqb a 0)
-    (λ x. test (eqb b 0)
-    (λ y. let p = eqb-true a 0 x in let q = eqb-true b 0 y in eq-eqb (bit_or a b) 0 (omega arith) ∙ sym (rw x (rw y)))
-    (λ y. ne_eqb (bit_or a b) 0 (λ e. eqb-false b 0 y (omega arith)) ∙ sym (and-no-right (eqb a 0) (eqb b 0) y)))
-    (λ x. ne_eqb (bit_or a b) 0 (λ e. eqb-false a 0 x (omega arith)) ∙ sym (and-no-left (eqb a 0) (eqb b 0) x))
-
--- a turn of the loop: what the cells have above the legal ones is gathered bit by bit
-pub gather-turn : (f : ℕ → ℕ) (i over e : ℕ) → eqb over 0 ≡ all legal_cell (tab i f) → eqb e 0 ≡ legal_cell (f i)
-    → eqb (bit_or over e) 0 ≡ all legal_cell (tab (i + 1) f)
-gather-turn f i over e flag this = flag-turn legal_cell f i (eqb over 0) (eqb (bit_or over e) 0) flag (none_or over e ∙ ap (eqb over 0 &&◌) this)
+-- a turn of the loop, which keeps the greatest level: all cells so far are legal where it is at most n
+pub level-turn : (f : ℕ → ℕ) (i most e n : ℕ) → leb most n ≡ all legal_cell (tab i f) → leb e n ≡ legal_cell (f i)
+    → leb (ord_max nat_cmp most e) n ≡ all legal_cell (tab (i + 1) f)
+level-turn f i most e n flag this =
+    ap (λ k. leb k n) (greater most e)
+    ∙ flag-turn legal_cell f i (leb most n) (leb (max most e) n) flag (max_at_most most e n ∙ ap (leb most n &&◌) this)
