@@ -19,7 +19,7 @@ static const struct matlink_text matlink_texts[] = {
     {MATLINK_BAD_ARGUMENT, "send and reply have argument 0, a tick is at least 1"},
     {MATLINK_WINDOW_FULL, "a full window of rows is outstanding"},
     {MATLINK_NO_ROW_LEFT, "every row of the supply has been sent"},
-    {MATLINK_ILLEGAL_CELL, "the row has a cell above 4095"},
+    {MATLINK_ILLEGAL_CELL, "a cell is neither 0 to 4095 nor 65535, a torn one"},
     {MATLINK_DATA_TABLE_FULL, "32 data messages are in the air"},
     {MATLINK_NOT_OUTSTANDING, "no outstanding row has this place (places count from 0)"},
     {MATLINK_ALREADY_ACKNOWLEDGED, "this row has been acknowledged"},

@@ -15,7 +15,7 @@ pub const NUMBERS: [(&str, &str); 33] = [
     ("BadArgument", "send and reply have argument 0, a tick is at least 1"),
     ("WindowFull", "a full window of rows is outstanding"),
     ("NoRowLeft", "every row of the supply has been sent"),
-    ("IllegalCell", "the row has a cell above 4095"),
+    ("IllegalCell", "a cell is neither 0 to 4095 nor 65535, a torn one"),
     ("DataTableFull", "32 data messages are in the air"),
     ("NotOutstanding", "no outstanding row has this place (places count from 0)"),
     ("AlreadyAcknowledged", "this row has been acknowledged"),

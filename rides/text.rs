@@ -3,6 +3,9 @@
 use crate::link::CELLS;
 use crate::nearest;
 
+/// What a torn cell reads.
+const TORN: u16 = 65_535;
+
 /// The trial counts its rows in one byte.
 const MOST_ROWS: usize = 255;
 
@@ -108,6 +111,14 @@ fn number(word: &str, most: u16) -> Result<u16, String> {
     }
 }
 
+/// A cell: a number, or `torn`.
+fn cell(word: &str) -> Result<u16, String> {
+    if word == "torn" {
+        return Ok(TORN);
+    }
+    number(word, u16::MAX).map_err(|_| format!("`{word}` is neither a whole number from 0 to {} nor `torn`", u16::MAX))
+}
+
 /// The line is one of these forms without its number.
 fn lacks_number(words: &[&str]) -> Option<String> {
     let limits = LIMITS.iter().copied();
@@ -167,7 +178,7 @@ impl Ride {
     }
 
     fn add_row(&mut self, words: &[&str]) -> Result<(), String> {
-        let cells = words.iter().map(|word| number(word, 65_535)).collect::<Result<Vec<u16>, String>>()?;
+        let cells = words.iter().map(|word| cell(word)).collect::<Result<Vec<u16>, String>>()?;
         match cells[..] {
             [cell] => self.add_rows(&[[cell; CELLS]]),
             _ => match <[u16; CELLS]>::try_from(cells) {

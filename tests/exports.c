@@ -1,8 +1,7 @@
 /* The header's functions from C: good and refused input of each, and every answer that they give.
  *
  *   exports          does the calls
- *   exports texts    the text of each number from 0 to 255
- */
+ *   exports texts    the text of each number from 0 to 255 */
 #include "matlink.h"
 #include <stdio.h>
 #include <string.h>
@@ -173,6 +172,8 @@ static void mat_order(void) {
     step(MATLINK_SEND, 0);
     supply_lent = 16;
     step(MATLINK_SEND, 0);
+    rows[15] = MATLINK_CELL_TORN - 1;
+    step(MATLINK_SEND, 0);
     rows[15] = MATLINK_CELL_MOST;
     step(MATLINK_SEND, 0);
     now.next = 2;
@@ -242,6 +243,8 @@ static void rides(void) {
     ride("resend wait 3, data life 0", 2, 0, 3, list, 10);
     ride("data life 0, window 0", 0, 0, 4, list, 10);
     ride("nine events", 2, 1, 4, list, 18);
+    rows[15] = MATLINK_CELL_TORN;
+    ride("a torn cell", 2, 1, 4, list, 10);
     supply_lent = 24;
     ride("nine events, half a row", 2, 1, 4, list, 18);
     ride("nine events, half a row, odd bytes", 2, 1, 4, list, 17);
@@ -282,6 +285,9 @@ static void data_frames(void) {
     read_bytes("no byte", 0);
     /* from here on one thing more is wrong each time, and it is asked before the others */
     write_bytes("35 bytes of room", 35);
+    frame.cell[15] = MATLINK_CELL_TORN;
+    write_bytes("torn", MATLINK_DATA_FRAME_BYTES);
+    read_bytes("torn", MATLINK_DATA_FRAME_BYTES);
     frame.cell[15] = MATLINK_CELL_MOST + 1;
     write_bytes("cell 4096", 35);
     frame.life = MATLINK_TIME_MOST + 1;
@@ -315,12 +321,12 @@ static void reply_frames(void) {
     write_bytes("kind 0", 4);
 }
 
-/* The bytes 0 to 4 of a frame, and behind them cells of 65535: one thing less is wrong each time. */
+/* The bytes 0 to 4 of a frame, and behind them none that makes a legal cell: one thing less is wrong each time. */
 static void read_order(void) {
     static const uint8_t tries[][5] = {{3, 0, 0, 64, 66}, {2, 0, 0, 64, 66}, {2, 0, 32, 64, 66}, {2, 0, 32, 63, 61},
                                        {2, 1, 32, 63, 61}, {2, 1, 32, 63, 30}};
     size_t i;
-    memset(bytes, 255, sizeof bytes);
+    memset(bytes, 254, sizeof bytes);
     for (i = 0; i < sizeof tries / sizeof tries[0]; i++) {
         memcpy(bytes, tries[i], 5);
         read_bytes("of 6 bytes", 6);
@@ -352,6 +358,8 @@ static void pages(void) {
     page("of 60 rows", all, 0, whole);
     page("of 1 row", all, 1, MATLINK_LINE_BYTES);
     page("more room", all, 1, whole);
+    page_cells[all - 1] = MATLINK_CELL_TORN;
+    page("torn", all, 1, MATLINK_LINE_BYTES);
     /* from here on one thing more is wrong each time, and it is asked before the others */
     page("22 bytes of room", all, 1, MATLINK_LINE_BYTES - 1);
     page_cells[all - 1] = MATLINK_CELL_MOST + 1;

@@ -85,9 +85,10 @@ printf '%sdance\nsned\nSend\nsend 1\ndata 0\nlose 0 data\nWINDOW 2\narrive data 
 )"
 printf '\357\273\277%ssend\n' "$limits" | prints 'a byte order mark' 0 "$(lines "$title" '   5  send                 11  every row of the supply has been sent' 'sent 0 acknowledged 0 recorded 0')"
 printf '\377\376w\0' | prints 'UTF-16' 1 '1: the text is UTF-16; a ride is UTF-8'
-printf '%stick 256\ntick -1\ntick +1\ntick 1.5\nresend wait 65536\nrow 65536\n' "$limits" | prints 'no such numbers' 1 "$(
+printf '%stick 256\ntick -1\ntick +1\ntick 1.5\nresend wait 65536\nrow 65536\nrow Torn\n' "$limits" | prints 'no such numbers' 1 "$(
     for k in '5 256' '6 -1' '7 +1' '8 1.5'; do echo "${k% *}: \`${k#* }\` is not a whole number from 0 to 255"; done
-    lines "9: $late 5" '10: `65536` is not a whole number from 0 to 65535'
+    lines "9: $late 5"
+    for k in '10 65536' '11 Torn'; do echo "${k% *}: \`${k#* }\` is neither a whole number from 0 to 65535 nor \`torn\`"; done
 )"
 printf '%sresend wait 65536\n' "$limits" | prints 'no such wait' 1 '5: `65536` is not a whole number from 0 to 65535'
 printf '%srow\nrow 1 2\nrow 1 2 3 4 5 6 7 8 9 10 11 12 13 14 15 16 17\n' "$limits" | prints 'rows of other lengths' 1 "$(for k in '5 0' '6 2' '7 17'; do echo "${k% *}: a row has 16 cells, or one that stands for all 16; here are ${k#* }"; done)"
@@ -189,6 +190,11 @@ done
 printf '%srow 5\nsend\ndata 0 arrives\nreply\nreply 0 arrives\n' "$limits" >"$here/x.ride"
 { printf '\001\002\002\002\000\000\001'; printf '\005\000%.0s' {1..16}; printf '\001\000\003\000\004\000\005\000'; } >"$here/expected"
 "$here/ride" --bytes "$here/x.ride" | cmp - "$here/expected" || fails 'the example: other bytes'
+
+# A torn cell is 65535
+printf '%srow 7 torn 0 0 0 0 0 0 0 0 0 0 0 0 0 65535\nrow torn\n' "$limits" >"$here/x.ride"
+{ printf '\001\002\002\002\000\000\002'; printf '\007\000\377\377'; printf '\000%.0s' {1..26}; printf '\377%.0s' {1..34}; } >"$here/expected"
+"$here/ride" --bytes "$here/x.ride" | cmp - "$here/expected" || fails 'torn cells: other bytes'
 
 # The tables: docs/RIDES.md has each line, and crates/limits the same number for each answer.
 "$here/ride" --tables >"$here/tables"

@@ -35,7 +35,8 @@ extern "C" {
 
 /* Sizes, and the largest numbers that are allowed. The smallest time, life and window is 1. */
 #define MATLINK_ROW_CELLS 16          /* cells of a row, the unit of supply and record */
-#define MATLINK_CELL_MOST 4095        /* a cell */
+#define MATLINK_CELL_MOST 4095        /* a cell, unless it is torn */
+#define MATLINK_CELL_TORN 65535       /* what a torn cell reads */
 #define MATLINK_WINDOW_MOST 32        /* the window w, and the rows that each end has places for */
 #define MATLINK_TIME_MOST 250         /* data life, reply life and reply wait, in ticks */
 #define MATLINK_RESEND_WAIT_MOST 1000 /* the resend wait, in ticks */
@@ -47,7 +48,7 @@ extern "C" {
 #define MATLINK_DATA_FRAME_BYTES 36   /* 1, life, w, number, sixteen cells with the low byte first */
 #define MATLINK_REPLY_FRAME_BYTES 5   /* 2, life, w, first, last */
 #define MATLINK_PAGE_ROWS 60          /* rows of a page; the last one of a record may have fewer */
-#define MATLINK_LINE_BYTES 23         /* bytes of a page's line: 5 columns, a space, sixteen digits, a line feed */
+#define MATLINK_LINE_BYTES 23         /* bytes of a page's line: 5 columns, a space, sixteen digits or hyphens, a line feed */
 #define MATLINK_PAGED_ROWS_MOST 100000 /* rows of a record that has pages */
 
 /* The kinds of events, with their arguments. Rows and messages are counted from the oldest, which is 0; when a message leaves a
@@ -83,7 +84,7 @@ enum matlink_answer {
     MATLINK_BAD_ARGUMENT = 9,          /* is the argument of a send or reply 0, and that of a tick not 0? */
     MATLINK_WINDOW_FULL = 10,          /* send: are fewer than w rows outstanding? */
     MATLINK_NO_ROW_LEFT = 11,          /* send: is a row left in the supply? */
-    MATLINK_ILLEGAL_CELL = 12,         /* send, data frame, page: is every cell of the row or of the page at most 4095? */
+    MATLINK_ILLEGAL_CELL = 12,         /* send, data frame, page: is every cell of the row or of the page legal: 0 to 4095, or 65535? */
     MATLINK_DATA_TABLE_FULL = 13,      /* send, resend: are fewer than 32 data messages in the air? */
     MATLINK_NOT_OUTSTANDING = 14,      /* resend: are more than k rows outstanding? */
     MATLINK_ALREADY_ACKNOWLEDGED = 15, /* resend: is the row not acknowledged? */
@@ -122,7 +123,8 @@ const char *matlink_answer_text(uint8_t answer);
  *    of the first w places each timer of the mat is at most the resend wait, and each of the pad at most the reply wait;
  *    each table has at most 32 messages, whose lives are 1 to the data life or reply life and whose numbers are below 2w, and
  *    each reply covers at most w rows, (last - first) mod 2w + 1;
- *    the cells of rows outstanding, of rows held (marked at the pad) and of data messages are at most 4095.
+ *    the cells of rows outstanding, of rows held (marked at the pad) and of data messages are legal: 0 to 4095, or 65535, a
+ *    torn one.
  *
  * What a call that is done leaves beyond the first w places, behind the messages of a table, in the cells of rows neither
  * outstanding nor held and in the reply timers of rows not held is not promised. Two links in the same state may differ there. */
@@ -168,8 +170,9 @@ uint8_t matlink_lent_write_frame(const uint16_t *head, const uint16_t *cells, ui
                                  size_t *count);
 
 /* Writes a page of a record as text to the front of the buffer: up to 60 rows, from row 60 times `page` on. Pages count from 0.
- * A line is 23 bytes of ASCII: the row's number, counted from 0, at the right of 5 columns, with spaces in front; a space; a
- * digit for each cell, its shade, which is the cell times 10 divided by 4096, rounded down; a line feed. No 0 ends the text.
+ * A line is 23 bytes of ASCII: the row's number, counted from 0, at the right of 5 columns, with spaces in front; a space; for
+ * each cell a digit, its shade, which is the cell times 10 divided by 4096, rounded down, or a hyphen where the cell is torn; a
+ * line feed. No 0 ends the text.
  * Asked in this order: the record is whole rows, and at most 100,000 (30); the page has a row (31), whatever number it is; the
  * cells of the page, and no others (12); the length of the buffer (32), 23 bytes for each row of this page.
  * Done: `count` gets the count of bytes written, 23 for each row, and the bytes behind them are as they were.

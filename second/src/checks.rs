@@ -1,11 +1,13 @@
 //! What is put to the proved library: random lists, all short lists, bad limits, numbers that are too wide.
 
-use crate::compare::{different, Call, Case};
-use crate::differ::{difference, ride_difference};
+use crate::built::Counts;
+use crate::compare::{different, rows, Call, Case};
+use crate::differ::{counts, difference, ride_difference};
 use crate::draw::{random_case, random_limits};
 use crate::library::{Lent, Library};
 use crate::limits::{Limits, CELLS};
 use crate::matlink::Matlink;
+use crate::met::{torn, Accepted, ENOUGH};
 use crate::report::{Outcome, Replay};
 use crate::short::{all_short, Compared, EVENTS};
 use crate::shrink::{flat, shortest};
@@ -27,8 +29,8 @@ fn cut(library: &dyn Library, case: Case) -> (String, Case) {
     (list_difference(library, &cut).unwrap_or_default(), cut)
 }
 
-/// Lists, calls and events that were compared.
-type Lists = [u64; 3];
+/// Lists, calls and events that were compared, the rows sent in them, and how many of these rows have a torn cell.
+type Lists = [u64; 5];
 
 /// Seeded lists cut into runs and calls for one event, and each in one ride.
 pub fn random_lists(library: &dyn Library, replay: &Replay, amount: Amount) -> Outcome {
@@ -40,20 +42,24 @@ pub fn random_lists(library: &dyn Library, replay: &Replay, amount: Amount) -> O
         let bytes = &list[..list.len() - odd];
         let answers = (list.len() / 2).saturating_sub(short) + (seed % 3) as usize * (1 - short);
         let (events, calls) = (list.len() as u64 / 2, case.calls.len() as u64);
-        if difference(library, &case).is_some() {
+        let Ok(Counts { sent, .. }) = counts(library, &case) else {
             let (found, case) = cut(library, case);
             return Err(replay.failed_ride("lists", seed, &found, &case));
-        }
+        };
         if let Some(found) = ride_difference(library, &case, bytes, answers) {
             let (shorter, case) = cut(library, case);
             let found = if shorter.is_empty() { found } else { shorter };
             return Err(replay.failed_ride("lists", seed, &found, &case));
         }
-        *counted = [counted[0] + 1, counted[1] + calls, counted[2] + events];
+        let with_torn = rows(&case.supply)[..sent].iter().filter(|row| torn(*row)).count();
+        let more = [1, calls, events, sent as u64, with_torn as u64];
+        *counted = std::array::from_fn(|at| counted[at] + more[at]);
         Ok(events)
     })?;
-    let [lists, calls, events] = sums(counted);
-    Ok(format!("{lists} random lists in {calls} calls and {lists} rides, {events} events"))
+    let [lists, calls, events, all, torn] = sums(counted);
+    let sent = Accepted { all, torn };
+    sent.all_there("lists", events >= ENOUGH)?;
+    Ok(format!("{lists} random lists in {calls} calls and {lists} rides, {events} events; rows sent {sent}"))
 }
 
 /// All short lists, for windows and times 1 and 2.

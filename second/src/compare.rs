@@ -44,6 +44,9 @@ pub fn ones(events: &[(u8, u8)]) -> Vec<Call> {
 /// How the built ends take one event, so that a test can put a wrong one in its place.
 pub type Step = fn(&mut Link, u8, u8, &[u16], &mut [u16]) -> Result<Counts, Refusal>;
 
+/// What a record holds before a case: no legal cell, so that a written row shows.
+pub const UNWRITTEN: u16 = 0x8888;
+
 /// What the answer buffer holds before a run: no answer has this number.
 const UNTOUCHED: u8 = 0xAA;
 

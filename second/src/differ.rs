@@ -170,15 +170,21 @@ fn counts_difference(counts: &[usize], expected: &Result<Counts, Refusal>) -> Di
     named(counts, &all, |at| names[at].into())
 }
 
-/// The first difference on a case, whose opening may be refused: its calls then meet question 4.
-pub fn difference(library: &dyn Library, case: &Case) -> Difference {
+/// The counts of a case, or the first difference on it. Its opening may be refused: its calls then meet question 4.
+pub fn counts(library: &dyn Library, case: &Case) -> Result<Counts, String> {
     let (mut pair, _, found) = Pair::open(library, case.limits, &case.record);
-    found.or_else(|| {
+    let found = found.or_else(|| {
         case.calls.iter().enumerate().find_map(|(at, call)| {
             let (_, found) = pair.call(library, call, &case.supply);
             found.map(|text| format!("after call {}: {text}", at + 1))
         })
-    })
+    });
+    found.map_or(Ok(pair.total), Err)
+}
+
+/// The first difference on a case.
+pub fn difference(library: &dyn Library, case: &Case) -> Difference {
+    counts(library, case).err()
 }
 
 /// The first difference of a ride: an opening and a run of these events, without a kept link.

@@ -1,6 +1,7 @@
 //! Random lists, the same for the same seed.
 
 use crate::compare::{rows, Call, Case};
+use crate::draw_cells::{random_cells, ILLEGAL_EDGES};
 use crate::limits::{Limits, CELLS};
 use crate::random::Random;
 use crate::unbounded::Ends;
@@ -80,9 +81,9 @@ fn cut(random: &mut Random, events: &[(u8, u8)]) -> Vec<Call> {
 
 /// Rows for a supply, now and then with a cell that is not legal or with cells behind the last whole row.
 fn random_supply(random: &mut Random, rows: usize) -> Vec<u16> {
-    let mut cells: Vec<u16> = (0..rows * CELLS).map(|_| random.below(4096) as u16).collect();
+    let mut cells = random_cells(random, rows * CELLS);
     if rows > 0 && random.once_in(10) {
-        cells[random.below(rows * CELLS)] = random.one_of(&[4096, 65535]);
+        cells[random.below(rows * CELLS)] = random.one_of(&ILLEGAL_EDGES);
     }
     if random.once_in(60) {
         cells.extend([1, 2, 3]);

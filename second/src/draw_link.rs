@@ -1,6 +1,7 @@
 //! Random links such as a caller can make up, the same for the same seed.
 
 use crate::built::{Data, Link, Reply};
+use crate::draw_cells::{random_row, ILLEGAL_EDGES};
 use crate::limits::{Limits, CELLS, LARGEST_WINDOW, TABLE_PLACES};
 use crate::random::Random;
 
@@ -39,8 +40,8 @@ pub fn sound_link(random: &mut Random) -> Link {
     link_of(random, limits)
 }
 
-/// A sound link, or now and then one with a limit just beyond its edge that the rest of the link agrees with: timers and lives
-/// are at most what that limit says, so that nothing else need be wrong.
+/// A sound link, or now and then one with an illegal cell, or with a limit just beyond its edge that the rest of the link agrees
+/// with: timers and lives are at most what that limit says, so that nothing else need be wrong.
 pub fn drawn_link(random: &mut Random) -> Link {
     let mut limits = good_limits(random);
     match random.below(36) {
@@ -55,7 +56,11 @@ pub fn drawn_link(random: &mut Random) -> Link {
     if [limits.data_life, limits.reply_life, limits.reply_wait].contains(&251) {
         limits.resend_wait = random.one_of(&[752, 1000]);
     }
-    link_of(random, limits)
+    let mut link = link_of(random, limits);
+    if random.once_in(24) {
+        draw_illegal(random, &mut link);
+    }
+    link
 }
 
 /// The rest of a link with these limits.
@@ -90,7 +95,7 @@ fn timer(random: &mut Random, wait: u16) -> u16 {
 /// One place of the mat and of the pad, with illegal cells where the pad holds no row.
 fn draw_place(random: &mut Random, link: &mut Link, place: usize) {
     let Link { limits, mat, pad, .. } = link;
-    let row = [0; CELLS].map(|_: u16| random.below(4096) as u16);
+    let row = random_row(random);
     (mat.rows[place], pad.rows[place]) = (row, row);
     mat.timers[place] = timer(random, limits.resend_wait);
     pad.timers[place] = timer(random, limits.reply_wait);
@@ -99,9 +104,9 @@ fn draw_place(random: &mut Random, link: &mut Link, place: usize) {
         mat.marked[place] = random.once_in(2);
         mat.timers[place] = random.next() as u16;
         pad.timers[place] = random.next() as u16;
-        mat.rows[place] = [65535; CELLS];
+        mat.rows[place] = [ILLEGAL_EDGES[1]; CELLS];
     } else if !pad.held[place] {
-        pad.rows[place] = [65535; CELLS];
+        pad.rows[place] = [ILLEGAL_EDGES[1]; CELLS];
     }
 }
 
@@ -121,7 +126,7 @@ fn draw_numbers(random: &mut Random, link: &mut Link) {
         link.mat.marked[(oldest + k) % w] = random.once_in(2);
     }
     for k in outstanding..w {
-        link.mat.rows[(oldest + k) % w] = [4096; CELLS];
+        link.mat.rows[(oldest + k) % w] = [ILLEGAL_EDGES[0]; CELLS];
     }
 }
 
@@ -130,13 +135,26 @@ fn draw_messages(random: &mut Random, link: &mut Link, place: usize) {
     let (w, oldest) = (window_of(link), usize::from(link.mat.oldest));
     let mut life = |most: u16| 1 + timer(random, most.saturating_sub(1));
     let (data_life, reply_life) = (life(link.limits.data_life), life(link.limits.reply_life));
-    let row = [0; CELLS].map(|_: u16| random.below(4096) as u16);
+    let row = random_row(random);
     let number = random.below(2 * w) as u8;
-    let none = Data { number: 255, life: 0, row: [65535; CELLS] };
+    let none = Data { number: 255, life: 0, row: [ILLEGAL_EDGES[1]; CELLS] };
     link.data.messages[place] = if place < link.data.count { Data { number, life: data_life, row } } else { none };
     let first = if random.once_in(2) { random.below(2 * w) } else { oldest };
     let last = ((first + random.below(w)) % (2 * w)) as u8;
     let none = Reply { first: 255, last: 0, life: 0 };
     let reply = Reply { first: first as u8, last, life: reply_life };
     link.replies.messages[place] = if place < link.replies.count { reply } else { none };
+}
+
+/// An illegal cell in a row of the mat, of the pad or in the air. Question 4 looks at it where the row is outstanding, held or
+/// that of a message.
+fn draw_illegal(random: &mut Random, link: &mut Link) {
+    let place = random.below(window_of(link));
+    let message = random.below(link.data.count.max(1));
+    let row = match random.below(3) {
+        0 => &mut link.mat.rows[place],
+        1 => &mut link.pad.rows[place],
+        _ => &mut link.data.messages[message].row,
+    };
+    row[random.below(CELLS)] = random.one_of(&ILLEGAL_EDGES);
 }

@@ -1,5 +1,7 @@
 //! Frames to be read: at every edge, good ones, damaged ones, and all small ones.
 
+use crate::draw_cells::{random_cell, EDGES};
+use crate::limits::CELLS;
 use crate::random::Random;
 
 /// A good frame.
@@ -12,14 +14,14 @@ pub fn good(r: &mut Random) -> Vec<u8> {
         return vec![2, life as u8, w as u8, first as u8, last as u8];
     }
     let mut b = vec![1, life as u8, w as u8, first as u8];
-    for _ in 0..16 {
-        let cell = r.below(4096);
-        b.extend([(cell % 256) as u8, (cell / 256) as u8]);
+    for _ in 0..CELLS {
+        b.extend(random_cell(r).to_le_bytes());
     }
     b
 }
 
-/// All lengths with every first byte; every w with numbers and lives at their edges; every span; every cell at its edge.
+/// All lengths with every first byte; every w with numbers and lives at their edges; every span; every cell at its edges, beside
+/// whole cells and beside torn ones.
 pub fn edges() -> Vec<Vec<u8>> {
     let mut all = vec![vec![]];
     for length in 1..=40usize {
@@ -48,13 +50,14 @@ pub fn edges() -> Vec<Vec<u8>> {
             }
         }
     }
-    for place in 0..16 {
-        for cell in [4095u32, 4096, 65535] {
-            let mut b = vec![1, 1, 2, 3];
-            b.extend([0; 32]);
-            b[4 + 2 * place] = (cell % 256) as u8;
-            b[5 + 2 * place] = (cell / 256) as u8;
-            all.push(b);
+    for place in 0..CELLS {
+        for cell in EDGES {
+            for beside in [0, 0xFF] {
+                let mut b = vec![1, 1, 2, 3];
+                b.extend([beside; 2 * CELLS]);
+                b[4 + 2 * place..6 + 2 * place].copy_from_slice(&cell.to_le_bytes());
+                all.push(b);
+            }
         }
     }
     all

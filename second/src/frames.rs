@@ -36,6 +36,14 @@ pub enum Frame {
 }
 
 impl Frame {
+    /// The cells of a data frame. A reply has none.
+    pub fn cells(&self) -> &[u16] {
+        match self {
+            Frame::Data { row, .. } => row,
+            Frame::Reply { .. } => &[],
+        }
+    }
+
     /// Questions 24 to 27 and 12, which reading and writing share.
     fn questions(&self) -> Result<(), Refusal> {
         let (life, window, numbers) = match *self {

@@ -12,6 +12,7 @@ pub mod checks;
 pub mod compare;
 pub mod differ;
 pub mod draw;
+pub mod draw_cells;
 pub mod draw_link;
 pub mod frame_checks;
 pub mod frame_lists;

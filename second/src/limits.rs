@@ -3,8 +3,11 @@
 /// Cells in a row.
 pub const CELLS: usize = 16;
 
-/// The greatest legal cell.
+/// The greatest cell that a mat reads where it is whole.
 pub const GREATEST_CELL: u16 = 4095;
+
+/// What a torn cell reads: the one legal cell above the greatest.
+pub const TORN_CELL: u16 = 65_535;
 
 /// The largest window, and so the length of every array that is indexed by place.
 pub const LARGEST_WINDOW: usize = 32;
@@ -41,7 +44,7 @@ pub enum Refusal {
     WindowFull = 10,
     /// Send: no row is left.
     SupplyEmpty = 11,
-    /// A cell above 4095.
+    /// A cell that is not legal.
     IllegalCell = 12,
     /// 32 data messages are in the air.
     DataTableFull = 13,
@@ -104,10 +107,16 @@ pub fn number<T>(answer: &Result<T, Refusal>) -> u8 {
     }
 }
 
-/// Question 12 of a row. The greatest cell is a power of two less 1, so all cells pass where their bitwise or does.
+/// The rule for a cell, wherever question 12 is put and in the cell clause of question 4.
+#[inline]
+pub fn legal_cell(cell: u16) -> bool {
+    cell <= GREATEST_CELL || cell == TORN_CELL
+}
+
+/// Question 12 of a row. All cells are looked at, as a loop of fixed length is the faster one.
 #[inline]
 pub fn legal(row: &Row) -> bool {
-    row.iter().fold(0, |bits, cell| bits | cell) <= GREATEST_CELL
+    row.iter().fold(true, |all, cell| all & legal_cell(*cell))
 }
 
 /// The limits of a link, as asked for or as opened. All times are in ticks. Zeros stand for a link whose opening was refused.

@@ -1,8 +1,9 @@
 //! Calls on links that a caller made up, sound or not: the call for one event is then a single call of the mat, the pad or a
 //! table, and the whole link is compared after it.
 
-use crate::compare::Call;
+use crate::compare::{Call, UNWRITTEN};
 use crate::differ::{Difference, Pair};
+use crate::draw_cells::{random_cells, EDGES};
 use crate::draw_link::{drawn_link, random_kind};
 use crate::library::Library;
 use crate::limits::{CELLS, TABLE_PLACES};
@@ -136,9 +137,10 @@ fn argument(random: &mut Random, kind: u8) -> u8 {
 
 /// Rows for one or more sends, now and then one that is not legal or not whole.
 fn supply(random: &mut Random) -> Vec<u16> {
-    let mut cells: Vec<u16> = (0..CELLS * random.below(4)).map(|_| random.below(4096) as u16).collect();
+    let rows = random.below(4);
+    let mut cells = random_cells(random, rows * CELLS);
     if !cells.is_empty() && random.once_in(8) {
-        cells[random.below(CELLS)] = random.one_of(&[4095, 4096, 65_535]);
+        cells[random.below(CELLS)] = random.one_of(&EDGES);
     }
     if random.once_in(40) {
         cells.push(1);
@@ -149,7 +151,7 @@ fn supply(random: &mut Random) -> Vec<u16> {
 /// A space of no, some or many rows, or one cell less or more than that.
 fn record(random: &mut Random) -> Vec<u16> {
     let rows = random.one_of(&[0, 1, 2, 3, 33]) * CELLS;
-    vec![0x8888; (rows + random.below(3)).saturating_sub(1)]
+    vec![UNWRITTEN; (rows + random.below(3)).saturating_sub(1)]
 }
 
 /// A call for an event of this kind.
@@ -207,7 +209,8 @@ pub fn made_up_links(library: &dyn Library, replay: &Replay, amount: Amount) -> 
 /// Numbers at and beyond the edges of a link with these limits.
 fn edges(link: &Matlink) -> Vec<u16> {
     let [window, data_life, reply_life, reply_wait, resend_wait, ..] = link.head();
-    let mut all = vec![0, 1, 2, 32, 33, 249, 250, 251, 255, 256, 257, 999, 1000, 1001, 4095, 4096, 65_535];
+    let mut all = vec![0, 1, 2, 32, 33, 249, 250, 251, 255, 256, 257, 999, 1000, 1001];
+    all.extend(EDGES);
     for edge in [window, 2 * window, data_life, reply_life, reply_wait, resend_wait] {
         all.extend([edge.saturating_sub(1), edge, edge.saturating_add(1)]);
     }

@@ -1,13 +1,15 @@
-//! What calls on made-up links met, so that a comparison that leaves something out is found out.
+//! What a comparison met, above all on made-up links, so that one that leaves something out is found out.
 
-use crate::matlink::Matlink;
+use crate::built::Link;
+use crate::limits::TORN_CELL;
+use crate::matlink::{without_free, Matlink};
 use std::fmt;
 
-/// From so many calls on, everything that can be met must have been.
-const ENOUGH: u64 = 50_000;
+/// From so many calls or events on, everything that can be met must have been.
+pub const ENOUGH: u64 = 50_000;
 
 /// The answers that a call for one event of each kind can give, beside 4 and 6. Kind 0 stands for those that there are not.
-const REACHABLE: [&[u8]; 9] = [
+pub const REACHABLE: [&[u8]; 9] = [
     &[8],
     &[0, 9, 10, 11, 12, 13],
     &[0, 13, 14, 15, 16],
@@ -20,7 +22,7 @@ const REACHABLE: [&[u8]; 9] = [
 ];
 
 /// The answers that a run can give.
-const RUN_REACHABLE: [u8; 5] = [0, 4, 5, 6, 7];
+pub const RUN_REACHABLE: [u8; 5] = [0, 4, 5, 6, 7];
 
 /// Limits at and beyond their edges: the name, and whether a link has it.
 type Edge = (&'static str, fn(&Matlink) -> bool);
@@ -36,16 +38,62 @@ const EDGES: [Edge; 8] = [
     ("resend wait of the sum", |link| link.resend_wait == link.data_life + link.reply_life + link.reply_wait),
 ];
 
+/// Whether one of the cells is torn.
+pub fn torn(cells: &[u16]) -> bool {
+    cells.contains(&TORN_CELL)
+}
+
+/// Rows of which question 4 asks the cells: the name, and whether a link whose free cells are 0 has a torn one there.
+type TornRow = (&'static str, fn(&Link) -> bool);
+
+const TORN_ROWS: [TornRow; 3] = [
+    ("an outstanding row", |link| torn(link.mat.rows.as_flattened())),
+    ("a held row", |link| torn(link.pad.rows.as_flattened())),
+    ("a data message", |link| link.data.all().iter().any(|message| torn(&message.row))),
+];
+
+/// Rows, frames or pages that were accepted.
+#[derive(Clone, Copy, Debug, Default, PartialEq, Eq)]
+pub struct Accepted {
+    /// All of them.
+    pub all: u64,
+    /// Those with a torn cell.
+    pub torn: u64,
+}
+
+impl Accepted {
+    /// One more, with these cells.
+    pub fn add(&mut self, cells: &[u16]) {
+        self.all += 1;
+        self.torn += u64::from(torn(cells));
+    }
+
+    /// Whether a torn cell was accepted, where there were enough to be met.
+    pub fn all_there(&self, what: &str, enough: bool) -> Result<(), String> {
+        if self.torn == 0 && enough {
+            return Err(format!("{what}: none accepted with a torn cell"));
+        }
+        Ok(())
+    }
+}
+
+impl fmt::Display for Accepted {
+    fn fmt(&self, out: &mut fmt::Formatter) -> fmt::Result {
+        write!(out, "{}, {} of these with a torn cell", self.all, self.torn)
+    }
+}
+
 /// How often each answer came.
 type Answers = [u64; 32];
 
-/// How often each kind had each answer, a run had each, and how many links had each edge.
+/// How often each kind had each answer, a run had each, how many links had each edge, and how many sound ones had torn cells.
 #[derive(Clone, Default)]
 pub struct Met {
     links: u64,
     runs: Answers,
     answers: [Answers; REACHABLE.len()],
     edges: [u64; EDGES.len()],
+    torn: [u64; TORN_ROWS.len()],
 }
 
 impl Met {
@@ -61,6 +109,13 @@ impl Met {
         for (count, (_, has)) in self.edges.iter_mut().zip(EDGES) {
             *count += u64::from(has(link));
         }
+        let link = Link::from(link);
+        if link.sound() {
+            let link = without_free(&link);
+            for (count, (_, has)) in self.torn.iter_mut().zip(TORN_ROWS) {
+                *count += u64::from(has(&link));
+            }
+        }
     }
 
     /// A run.
@@ -74,6 +129,7 @@ impl Met {
         add(&mut self.runs, &other.runs);
         add(self.answers.as_flattened_mut(), other.answers.as_flattened());
         add(&mut self.edges, &other.edges);
+        add(&mut self.torn, &other.torn);
         self
     }
 
@@ -90,7 +146,9 @@ impl Met {
         }
         reached(&self.runs, &RUN_REACHABLE, enough).map_err(|text| format!("made-up links: a run {text}"))?;
         let missing = EDGES.iter().zip(self.edges).find(|(_, times)| *times == 0 && enough);
-        missing.map_or(Ok(()), |((name, _), _)| Err(format!("made-up links: none with {name}")))
+        missing.map_or(Ok(()), |((name, _), _)| Err(format!("made-up links: none with {name}")))?;
+        let missing = TORN_ROWS.iter().zip(self.torn).find(|(_, times)| *times == 0 && enough);
+        missing.map_or(Ok(()), |((name, _), _)| Err(format!("made-up links: none sound with a torn cell in {name}")))
     }
 }
 
@@ -127,6 +185,9 @@ impl fmt::Display for Met {
         write!(out, "{} made-up links, {} calls for one event and {runs} runs on them", self.links, self.calls())?;
         write!(out, "\n  answers to one event  {}\n  answers of a run  {}", counts(&all), counts(&self.runs))?;
         let edges: Vec<String> = EDGES.iter().zip(self.edges).map(|((name, _), times)| format!("{name}: {times}")).collect();
-        write!(out, "\n  links with  {}", edges.join(", "))
+        write!(out, "\n  links with  {}", edges.join(", "))?;
+        let torn: Vec<String> =
+            TORN_ROWS.iter().zip(self.torn).map(|((name, _), times)| format!("{name}: {times}")).collect();
+        write!(out, "\n  sound links with a torn cell in  {}", torn.join(", "))
     }
 }

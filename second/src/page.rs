@@ -1,24 +1,29 @@
 //! A page: recorded rows as lines of text, for print.
 
-use crate::limits::{ask, legal, Refusal, Row};
+use crate::limits::{ask, legal, Refusal, Row, TORN_CELL};
 
 /// Rows of a page. The record's last page may have fewer.
 pub const PAGE_ROWS: usize = 60;
 
-/// Bytes of a line: 5 columns for the row's number, a space, a digit for each cell, the line end.
+/// Bytes of a line: 5 columns for the row's number, a space, a digit or a hyphen for each cell, the line end.
 pub const LINE_LENGTH: usize = 23;
 
 /// The most rows of a record that has pages: 5 columns hold no more numbers.
 pub const MOST_ROWS: usize = 100_000;
 
-/// The shade of a cell, 0 to 9 where the cell is legal.
-pub fn shade(cell: u16) -> u8 {
-    (u32::from(cell) * 10 / 4096) as u8
+/// The shade of a cell, 0 to 9 where the cell is legal. A torn cell has none.
+pub fn shade(cell: u16) -> Option<u8> {
+    (cell != TORN_CELL).then(|| (u32::from(cell) * 10 / 4096) as u8)
 }
 
-/// The line of a row. Its cells are legal, so that each shade is one digit.
+/// What is printed for a legal cell.
+fn printed(cell: u16) -> char {
+    shade(cell).map_or('-', |shade| char::from(b'0' + shade))
+}
+
+/// The line of a row. Its cells are legal, so that each is one character.
 fn line(number: usize, row: &Row) -> String {
-    let shades: String = row.iter().map(|cell| char::from(b'0' + shade(*cell))).collect();
+    let shades: String = row.iter().map(|cell| printed(*cell)).collect();
     format!("{number:>5} {shades}\n")
 }
 

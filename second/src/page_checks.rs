@@ -2,11 +2,13 @@
 
 use crate::compare::different;
 use crate::differ::Difference;
+use crate::draw_cells::random_cells;
 use crate::library::PageLibrary;
-use crate::limits::{number, CELLS, GREATEST_CELL};
+use crate::limits::{number, CELLS, GREATEST_CELL, TORN_CELL};
 use crate::members::named;
+use crate::met::Accepted;
 use crate::page::{page, LINE_LENGTH, PAGE_ROWS};
-use crate::page_lists::{legal_cells, long, random_call, random_length, wraps_onto_row, PageCall, LONG_CELLS};
+use crate::page_lists::{long, places, random_call, random_length, wraps_onto_row, PageCall, LONG_CELLS};
 use crate::random::Random;
 use crate::report::{Outcome, Replay};
 use crate::threads::Amount;
@@ -28,27 +30,32 @@ const ENOUGH: u64 = 1_000;
 /// The answers that a page can have.
 const ANSWERS: [u8; 5] = [0, 12, 30, 31, 32];
 
-/// How often each answer came, and how many calls were for a page of which 60 times the number wraps onto a row.
+/// How often each answer came, how many calls were for a page of which 60 times the number wraps onto a row, and the pages that
+/// were written.
 #[derive(Clone, Copy, Default)]
 pub struct Answered {
     answers: [u64; ANSWERS.len()],
     wrapped: u64,
+    written: Accepted,
 }
 
 impl Answered {
-    /// A call and its answer, which is one of those that a page can have.
-    pub fn call(&mut self, call: &PageCall, answer: u8) {
+    /// A call and its answer, which is one of those that a page can have, with the page's cells.
+    pub fn call(&mut self, call: &PageCall, answer: u8, cells: &[u16]) {
         for (times, can) in self.answers.iter_mut().zip(ANSWERS) {
             *times += u64::from(can == answer);
         }
         self.wrapped += u64::from(wraps_onto_row(call));
+        if answer == 0 {
+            self.written.add(cells);
+        }
     }
 
     fn calls(&self) -> u64 {
         self.answers.iter().sum()
     }
 
-    /// Whether every answer came, in calls enough, and a page that wraps.
+    /// Whether every answer came, in calls enough, a page that wraps, and a torn cell on a page.
     pub fn all_there(&self) -> Result<(), String> {
         if self.calls() < ENOUGH {
             return Ok(());
@@ -59,7 +66,7 @@ impl Answered {
         if self.wrapped == 0 {
             return Err("pages: none wraps onto a row".into());
         }
-        Ok(())
+        self.written.all_there("pages", true)
     }
 }
 
@@ -67,8 +74,8 @@ impl fmt::Display for Answered {
     fn fmt(&self, out: &mut fmt::Formatter) -> fmt::Result {
         let shown = |(answer, times): (u8, u64)| format!("{answer}: {times}");
         let answers: Vec<String> = ANSWERS.into_iter().zip(self.answers).map(shown).collect();
-        let (calls, wrapped, answers) = (self.calls(), self.wrapped, answers.join(", "));
-        write!(out, "{calls} calls, {wrapped} for a page that wraps onto a row; answers  {answers}")
+        let (calls, wrapped, answers, written) = (self.calls(), self.wrapped, answers.join(", "), self.written);
+        write!(out, "{calls} calls, {wrapped} for a page that wraps onto a row; answers  {answers}; written {written}")
     }
 }
 
@@ -83,10 +90,10 @@ impl Compared<'_> {
     fn call(&mut self, cells: &mut [u16], call: &PageCall) -> Result<(), String> {
         let kept = call.bad.map(|(at, cell)| (at, replace(&mut cells[at], cell)));
         let (answer, found) = difference(self.library, &cells[..call.cells], call.page, call.length);
+        self.answered.call(call, answer, &cells[places(call.cells, call.page)]);
         if let Some((at, cell)) = kept {
             cells[at] = cell;
         }
-        self.answered.call(call, answer);
         found.map_or(Ok(()), |text| Err(format!("{call:?}: {text}")))
     }
 
@@ -94,7 +101,7 @@ impl Compared<'_> {
     fn random_pages(&mut self, random: &mut Random, records: u64) -> Result<(), String> {
         for _ in 0..records {
             let length = random_length(random);
-            let mut cells = legal_cells(random, length + 1);
+            let mut cells = random_cells(random, length + 1);
             for _ in 0..CALLS {
                 self.call(&mut cells, &random_call(random, length))?;
             }
@@ -104,22 +111,23 @@ impl Compared<'_> {
 
     /// Records of about 100,000 rows.
     fn long_pages(&mut self, random: &mut Random) -> Result<(), String> {
-        let mut cells = legal_cells(random, LONG_CELLS);
+        let mut cells = random_cells(random, LONG_CELLS);
         long().iter().try_for_each(|call| self.call(&mut cells, call))
     }
 
-    /// Every legal cell at every place of a line, and every other number once on a page of legal cells.
+    /// Every legal cell at every place of a line, and every other number once on a page of legal cells, the first line of which
+    /// is torn.
     fn every_cell(&mut self) -> Result<(), String> {
-        let mut all: Vec<u16> = (0..=GREATEST_CELL).collect();
+        let mut all: Vec<u16> = (0..=GREATEST_CELL).chain([TORN_CELL; CELLS]).collect();
         let length = PAGE_ROWS * LINE_LENGTH;
         let cells = all.len();
         for _ in 0..CELLS {
             for page in 0..cells.div_ceil(PAGE_ROWS * CELLS) as u64 {
                 self.call(&mut all, &PageCall { cells, page, bad: None, length })?;
             }
-            all.rotate_left(1);
+            all.rotate_right(1);
         }
-        for cell in GREATEST_CELL + 1..=u16::MAX {
+        for cell in GREATEST_CELL + 1..TORN_CELL {
             let at = usize::from(cell) % (PAGE_ROWS * CELLS);
             self.call(&mut all, &PageCall { cells, page: 0, bad: Some((at, cell)), length })?;
         }

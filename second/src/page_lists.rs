@@ -1,6 +1,7 @@
 //! Calls for pages: at every edge of the record, the page's number, the page's cells and the buffer.
 
-use crate::limits::{CELLS, GREATEST_CELL};
+use crate::draw_cells::{random_illegal, ILLEGAL_EDGES};
+use crate::limits::CELLS;
 use crate::page::{LINE_LENGTH, MOST_ROWS, PAGE_ROWS};
 use crate::random::Random;
 use std::ops::Range;
@@ -16,11 +17,6 @@ pub struct PageCall {
     pub bad: Option<(usize, u16)>,
     /// Bytes of the buffer.
     pub length: usize,
-}
-
-/// Legal cells.
-pub fn legal_cells(random: &mut Random, count: usize) -> Vec<u16> {
-    (0..count).map(|_| random.below(usize::from(GREATEST_CELL) + 1) as u16).collect()
 }
 
 /// The places of the page's cells in a record of so many; none where there is no such page.
@@ -90,7 +86,7 @@ pub fn long() -> Vec<PageCall> {
 fn bad_cells(cells: usize, page: u64) -> Vec<Option<(usize, u16)>> {
     let Range { start, end } = places(cells, page);
     let beside = [Some(start), end.checked_sub(1), start.checked_sub(1), Some(end)];
-    let bad = |at| [4096, 65_535].map(|cell| Some((at, cell)));
+    let bad = |at| ILLEGAL_EDGES.map(|cell| Some((at, cell)));
     let bad = beside.into_iter().flatten().flat_map(bad);
     [None].into_iter().chain(bad).collect()
 }
@@ -126,7 +122,7 @@ pub fn random_call(random: &mut Random, cells: usize) -> PageCall {
 /// A bad cell at an edge of the page, anywhere on it, or anywhere in the record.
 fn random_bad(random: &mut Random, cells: usize, page: u64) -> Option<(usize, u16)> {
     let places = places(cells, page);
-    let cell = (4096 + random.below(65_536 - 4096)) as u16;
+    let cell = random_illegal(random);
     match random.below(4) {
         0 if !places.is_empty() => Some((places.start + random.below(places.len()), cell)),
         1 if cells > 0 => Some((random.below(cells), cell)),

@@ -1,9 +1,9 @@
 //! All short lists of events, and the proved library compared with the built ends here on them.
 
-use crate::compare::{ones, Call, Case};
+use crate::compare::{ones, Call, Case, UNWRITTEN};
 use crate::differ::{difference, Pair};
 use crate::library::Library;
-use crate::limits::{Limits, CELLS};
+use crate::limits::{Limits, CELLS, TORN_CELL};
 use std::collections::HashMap;
 use std::hash::{BuildHasherDefault, Hash, Hasher};
 
@@ -106,11 +106,12 @@ pub struct Short {
 }
 
 impl Short {
-    /// Rows that all differ and that are legal, and a record whose cells are not.
+    /// Rows that all differ and that are legal, each with a torn cell at another place, and a record whose cells are not legal.
     pub fn empty_case(&self) -> Case {
         let rows = self.rounds + self.space;
-        let supply = (0..(rows + 1) * CELLS).map(|cell| (cell * 1021 % 4096) as u16).collect();
-        Case { limits: self.limits, supply, record: vec![0xFFFF; rows * CELLS], calls: vec![] }
+        let cell = |at: usize| if at.is_multiple_of(CELLS + 1) { TORN_CELL } else { (at * 1021 % 4096) as u16 };
+        let supply = (0..(rows + 1) * CELLS).map(cell).collect();
+        Case { limits: self.limits, supply, record: vec![UNWRITTEN; rows * CELLS], calls: vec![] }
     }
 
     /// Puts all of them to whatever has states. Lists that lead to the same state go on together, as a call reads nothing but the

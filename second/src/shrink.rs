@@ -1,6 +1,6 @@
 //! Cutting a failing case to a short one.
 
-use crate::compare::{ones, Call, Case};
+use crate::compare::{ones, Call, Case, UNWRITTEN};
 use crate::limits::CELLS;
 
 /// The events of all calls. Runs that are refused add events here: the caller tries whether the case still fails.
@@ -147,5 +147,5 @@ fn simple_rows(case: &mut Case, fails: &dyn Fn(&Case) -> bool) {
             break;
         }
     }
-    attempt(case, fails, |case| case.record = vec![0xFFFF; case.supply.len()]);
+    attempt(case, fails, |case| case.record = vec![UNWRITTEN; case.supply.len()]);
 }

@@ -17,7 +17,8 @@ use Rattle.limits.specs.Limits.{between, sound_limits}
 use Rattle.limits.specs.Tables.{Message, Data, Reply, on_body, sound_data, sound_reply}
 use Rattle.limits.proofs.Laws.Lists.{is-tab, drop-tab, get_or-tab, tab-ext, all-tab}
 use Rattle.limits.proofs.Laws.Good.{good, between-high}
-use Rattle.limits.proofs.Laws.Messages.{small-legal, message-low, reply-facts}
+use Rattle.limits.proofs.Laws.Cells.{small-legal}
+use Rattle.limits.proofs.Laws.Messages.{message-low, reply-facts}
 use Rattle.rows.specs.Arrays.{pasted}
 use Rattle.rows.proofs.Laws.Cells.{length_part, legal-rows}
 use Rattle.rows.proofs.Laws.Changed.{changed-at, changed-other, inside, below}

@@ -32,7 +32,7 @@ infixr 4 ◌then◌
 a then b = (a, b)
 
 -- f w is x, since f is x at each of 1 to 32. One `refl` shows that, so no w needs a line of its own.
-for-each : {w : ℕ} → 1 ≤ w → w ≤ 32 → {A : Type 0} (f : ℕ → A) {x : A} → tab 32 (λ i. f (i + 1)) ≡ replicate 32 x → f w ≡ x
+pub for-each : {w : ℕ} → 1 ≤ w → w ≤ 32 → {A : Type 0} (f : ℕ → A) {x : A} → tab 32 (λ i. f (i + 1)) ≡ replicate 32 x → f w ≡ x
 for-each {w} some most f {x} e =
     ap f {x = w} {y = w - 1 + 1} (omega arith)
     ∙ sym (get_or-tab 32 (λ i. f (i + 1)) (w - 1) x (omega arith))

@@ -1,3 +1,4 @@
-// Bench cases A to J as one table of expectations, in specs/, and the proof that the rules meet it: definitions alone.
+// Bench cases A to J as one table of expectations, and what is expected of torn cells, in specs/, and the proof that the rules meet them:
+// definitions alone.
 
 #![tactic(auto)]

@@ -2,7 +2,7 @@
 use Prim.Native.Nat.{ℕ}
 use mathlib.Core.Path.{◌≡◌, refl}
 use mathlib.Core.List.{List, [], ◌∷◌, ◌++◌}
-use lib.ListN.{replicate}
+use lib.ListN.{replicate, set}
 use Rattle.limits.specs.Questions.{pick, first_no}
 use Rattle.limits.specs.Lists.{tab, all, joined}
 use Rattle.limits.specs.Cells.{legal_cell}
@@ -33,6 +33,13 @@ pub one_line : line_text 123 row
     ++ (48 ∷ 48 ∷ 49 ∷ 50 ∷ 51 ∷ 52 ∷ 53 ∷ 54 ∷ 55 ∷ 56 ∷ 57 ∷ 57 ∷ 48 ∷ 48 ∷ 48 ∷ 52 ∷ 10 ∷ [])
 unfolding column shade pick
 one_line = refl
+
+-- the same with the first and the last cell torn: "  123 -01234567899000-"
+pub torn_line : line_text 123 (set (set row 0 65535) 15 65535)
+    ≡ (32 ∷ 32 ∷ 49 ∷ 50 ∷ 51 ∷ 32 ∷ [])
+    ++ (45 ∷ 48 ∷ 49 ∷ 50 ∷ 51 ∷ 52 ∷ 53 ∷ 54 ∷ 55 ∷ 56 ∷ 57 ∷ 57 ∷ 48 ∷ 48 ∷ 48 ∷ 45 ∷ 10 ∷ [])
+unfolding column shade pick
+torn_line = refl
 
 -- a record of 61 rows: page 0 has 60, page 1 has the last, and there is no page 2
 pub last-page : (rows_on 61 0 ≡ 60) × (rows_on 61 1 ≡ 1) × (rows_on 61 2 ≡ 0)

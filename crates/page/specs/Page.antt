@@ -2,16 +2,16 @@
 use Rattle.std.specs.Prelude.{ℕ, ◌+◌, ◌-◌, ◌*◌, ◌/◌, ◌%◌, Bool, ◌&&◌, List, [], ◌∷◌, ◌++◌, map, eqb, leb, ltb, length, drop}
 use Rattle.limits.specs.Questions.{pick, Question, ask}
 use Rattle.limits.specs.Lists.{tab, all, joined}
-use Rattle.limits.specs.Cells.{row_at, legal_row}
-use Rattle.buffers.specs.Ascii.{digit, space, newline}
+use Rattle.limits.specs.Cells.{torn, row_at, legal_row}
+use Rattle.buffers.specs.Ascii.{digit, hyphen, space, newline}
 
 -- a cell times 10 divided by 4096, rounded down
 unfoldable pub shade : ℕ → ℕ
 shade cell = cell * 10 / 4096
 
--- what a line has for a cell: the digit of its shade
+-- what a line has for a cell: a hyphen for a torn one, else the digit of its shade
 abbrev pub printed : ℕ → ℕ
-printed cell = digit (shade cell)
+printed cell = pick (eqb cell torn) hyphen (digit (shade cell))
 
 -- n in the column of its tens, hundreds and so on (`unit`): the digit, or a space where n has none
 unfoldable pub column : ℕ → ℕ → ℕ
@@ -21,7 +21,7 @@ column n unit = pick (ltb n unit) 32 (digit (n / unit % 10))
 abbrev pub number_text : ℕ → List ℕ
 number_text n = column n 10000 ∷ column n 1000 ∷ column n 100 ∷ column n 10 ∷ digit (n % 10) ∷ []
 
--- A line is the row's number, a space, a digit for each cell, and a line end.
+-- A line is the row's number, a space, a digit or hyphen for each cell, and a line end.
 abbrev pub line_text : ℕ → List ℕ → List ℕ
 line_text n row = number_text n ++ (space ++ (map printed row ++ newline))
 

@@ -1,12 +1,15 @@
 // Inner: called by page. One line, written at a place of a buffer that has room.
 // Stays (fixed memory): writers at a place, as those of `buffers`, and digits one by one, since `write!` gives an error that no
 // contract rules out.
-ghost use Rattle.std.specs.Prelude.{◌≡◌, ◌++◌, map, ◌+◌, ◌≤◌, length, take, drop};
+ghost use Rattle.std.specs.Prelude.{◌≡◌, ◌++◌, map, ◌+◌, ◌≤◌, ◌<◌, length, take, drop};
 ghost use Rattle.buffers.specs.Ascii.{space};
 ghost use Rattle.buffers.specs.Buffers.{wrote};
 ghost use Rattle.page.specs.Page.{shade, printed, column, number_text, line_text};
 
+use limits::cells::TORN;
+
 fn shade(cell: u16) -> u8
+    requires { cell < 65535 }
     ensures { (result ≡ shade cell) × (result ≤ 159) }
 {
     // Stays (no plainer): each `as` here narrows a number whose bound is proved; `try_from` would give an error that cannot be.
@@ -16,7 +19,11 @@ fn shade(cell: u16) -> u8
 fn printed(cell: u16) -> u8
     ensures { result ≡ printed cell }
 {
-    b'0' + shade(cell)
+    if cell == TORN {
+        b'-'
+    } else {
+        b'0' + shade(cell)
+    }
 }
 
 fn column(n: usize, unit: usize) -> u8

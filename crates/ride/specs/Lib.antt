@@ -1,1 +1,2 @@
 pub mod Ride
+pub mod Torn

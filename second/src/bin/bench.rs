@@ -5,11 +5,11 @@
 //! a record of so many rows by both; their work stands in matlink_page and in second_page.
 
 use second::built::Link;
+use second::draw_cells::random_cells;
 use second::library::{asked, Lent, Library, PageLibrary, Rises};
 use second::limits::{Refusal, CELLS};
 use second::matlink::Matlink;
 use second::page::page;
-use second::page_lists::legal_cells;
 use second::proved::Proved;
 use second::random::Random;
 use second::rides::{all_rides, Ride};
@@ -98,7 +98,7 @@ pub fn second_page(record: &[u16], p: u64, buffer: &mut [u8]) -> Result<usize, R
 
 /// Both pages, and how many rows they have.
 fn pages(rows: usize, p: u64) {
-    let record = legal_cells(&mut Random::new(0), rows * CELLS);
+    let record = random_cells(&mut Random::new(0), rows * CELLS);
     let (mut proved, mut second) = ([0; 60 * 23], [0; 60 * 23]);
     let mut count = 0;
     Proved.write_page(&record, p, &mut proved, &mut count);

@@ -1,11 +1,13 @@
 //! The proved frame reader and writer against the ones here.
 //!
 //! framecheck reads frames from standard input, each behind a byte with its length, and prints what it makes of each. Compared
-//! are all lengths 0 to 40 with every first byte, each question's first failing byte, and seeded random and damaged frames.
+//! are all lengths 0 to 40 with every first byte, each question's first failing byte, and seeded random and damaged frames. Among
+//! those that are accepted there must be torn cells.
 
 use second::frame_lists::{damaged, edges};
 use second::frames::{read, write, Frame};
 use second::limits::number;
+use second::met::Accepted;
 use second::random::Random;
 use std::io::Write;
 use std::process::{exit, Command, Stdio};
@@ -52,7 +54,7 @@ fn main() {
     let program = std::env::args().nth(1).expect("the program's path");
     let mut frames = edges();
     frames.extend(damaged(&mut Random::new(1)));
-    let mut accepted = 0;
+    let mut accepted = Accepted::default();
     // framecheck takes 65,536 bytes at a time
     for batch in frames.chunks(1500) {
         let lines = printed(&program, batch);
@@ -66,8 +68,14 @@ fn main() {
                 println!("frame {frame:?}\n  printed  {line:?}\n  expected {want:?}");
                 exit(1);
             }
-            accepted += usize::from(line[0] == 0);
+            if let Ok(frame) = read(frame) {
+                accepted.add(frame.cells());
+            }
         }
     }
-    println!("{} frames compared, {} of them accepted", frames.len(), accepted);
+    if let Err(text) = accepted.all_there("frames", true) {
+        println!("{text}");
+        exit(1);
+    }
+    println!("{} frames compared, accepted {accepted}", frames.len());
 }

@@ -20,7 +20,7 @@ use second::shrink::{flat, shortest};
 use second::threads::Amount;
 
 /// A library with this mistake, or with none.
-struct StandIn(Option<Mistake>);
+pub struct StandIn(pub Option<Mistake>);
 
 fn give(done: Result<Counts, Refusal>, counts: &mut Rises) -> u8 {
     *counts = rises(done.unwrap_or_default());
@@ -106,6 +106,7 @@ fn nothing_differs_from_the_right_link() {
     let (replay, amount) = (&replay(), |events| Amount { seed: 0, events });
     let checks = [
         openings(&right, replay, amount(1)),
+        random_lists(&right, replay, amount(100_000)),
         made_up_links(&right, replay, amount(100_000)),
         damaged_links(&right, replay, amount(1)),
         wide_numbers(&right),
@@ -113,7 +114,7 @@ fn nothing_differs_from_the_right_link() {
     assert_eq!(checks.into_iter().find_map(Result::err), None);
 }
 
-fn replay() -> Replay {
+pub fn replay() -> Replay {
     Replay { command: "differential trial".into() }
 }
 

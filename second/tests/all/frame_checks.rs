@@ -3,8 +3,9 @@
 use second::frame_checks::{readings, writings};
 use second::frames::{read, write, Frame};
 use second::library::FrameLibrary;
-use second::limits::number;
+use second::limits::{number, Refusal, TORN_CELL};
 use second::matlink::MatlinkFrame;
+use second::met::torn;
 use second::report::Replay;
 use second::threads::Amount;
 
@@ -24,6 +25,32 @@ enum Wrong {
     Cut,
     /// A kind is cut to a byte.
     Kind,
+    /// A torn cell is not read.
+    TornRead,
+    /// A torn cell is not written.
+    TornWritten,
+    /// The number below a torn cell is read.
+    BelowTorn,
+    /// The number above the greatest whole cell is read.
+    AboveWhole,
+}
+
+const ALL: [Wrong; 10] = [
+    Wrong::Life,
+    Wrong::Span,
+    Wrong::Behind,
+    Wrong::Number,
+    Wrong::Cut,
+    Wrong::Kind,
+    Wrong::TornRead,
+    Wrong::TornWritten,
+    Wrong::BelowTorn,
+    Wrong::AboveWhole,
+];
+
+/// Whether a data frame has this cell.
+fn has_cell(bytes: &[u8], cell: u16) -> bool {
+    bytes[4..].chunks_exact(2).any(|pair| pair == cell.to_le_bytes())
 }
 
 struct StandIn(Wrong);
@@ -33,6 +60,9 @@ impl FrameLibrary for StandIn {
         match read(bytes) {
             Ok(Frame::Data { life: 250, .. }) if self.0 == Wrong::Life => 26,
             Ok(Frame::Reply { window: 32, first, last, .. }) if self.0 == Wrong::Span && first + 31 == last => 27,
+            Ok(frame) if self.0 == Wrong::TornRead && torn(frame.cells()) => 12,
+            Err(Refusal::IllegalCell) if self.0 == Wrong::BelowTorn && has_cell(bytes, TORN_CELL - 1) => 0,
+            Err(Refusal::IllegalCell) if self.0 == Wrong::AboveWhole && has_cell(bytes, 4096) => 0,
             Ok(frame) => {
                 *out = MatlinkFrame::from(&frame);
                 0
@@ -57,6 +87,9 @@ impl FrameLibrary for StandIn {
         let Some(frame) = frame.frame() else {
             return 22;
         };
+        if self.0 == Wrong::TornWritten && torn(frame.cells()) {
+            return 12;
+        }
         let written = write(&frame, buffer);
         *count = written.unwrap_or(0);
         if let (Ok(length), Wrong::Behind) = (written, self.0) {
@@ -70,7 +103,7 @@ impl FrameLibrary for StandIn {
 
 #[test]
 fn wrong_readers_and_writers_are_found() {
-    for wrong in [Wrong::Nothing, Wrong::Life, Wrong::Span, Wrong::Behind, Wrong::Number, Wrong::Cut, Wrong::Kind] {
+    for wrong in [Wrong::Nothing].into_iter().chain(ALL) {
         let (library, replay, amount) = (&StandIn(wrong), &Replay { command: String::new() }, Amount { seed: 0, events: 1 });
         let found = readings(library, replay, amount).and_then(|_| writings(library, replay, amount, 20_000));
         assert_eq!(found.is_err(), wrong != Wrong::Nothing, "{wrong:?}: {found:?}");

@@ -1,5 +1,6 @@
 //! Frames: the two ways undo each other, and each question's edge.
 
+use second::draw_cells::random_row;
 use second::frames::{read, write, Frame, DATA_LENGTH};
 use second::limits::number;
 use second::random::Random;
@@ -57,7 +58,7 @@ fn reading_and_writing_undo_each_other() {
             let last = (first + random.below(usize::from(window)) as u8) % (2 * window);
             Frame::Reply { life, window, first, last }
         } else {
-            Frame::Data { life, window, number: first, row: [0; 16].map(|_: u16| random.below(4096) as u16) }
+            Frame::Data { life, window, number: first, row: random_row(&mut random) }
         };
         let mut buffer = [0xEE; 40];
         let length = write(&frame, &mut buffer).expect("a good frame");

@@ -5,6 +5,7 @@ use second::built::{Counts, Link};
 use second::compare::{compare_with, ones, record_difference, rows, state_difference, Call, Case, Step};
 use second::draw::random_case;
 use second::limits::{number, CELLS};
+use second::met::torn;
 use second::ride_text::text;
 use second::short::{all_short, After, Compared, Event, Short, EVENTS};
 use second::shrink::shortest;
@@ -56,7 +57,7 @@ fn events_of(calls: &[Call]) -> Vec<(u8, u8)> {
 #[test]
 fn random_lists() {
     let mut answered = [0u64; 256];
-    let (mut events, mut rounds) = (0, 0);
+    let (mut events, mut rounds, mut with_torn) = (0, 0, 0);
     let mut windows = [false; 33];
     for seed in 0..RANDOM_LISTS {
         let case = random_case(seed);
@@ -73,9 +74,11 @@ fn random_lists() {
                 events += 1;
             }
             rounds += u64::from(ends.wanted > 2 * case.limits.window);
+            with_torn += ends.record.iter().filter(|row| torn(*row)).count();
         }
     }
     println!("{RANDOM_LISTS} random lists, {events} events, {rounds} lists past the ring's end");
+    println!("  {with_torn} rows recorded with a torn cell");
     for (number, times) in answered.iter().enumerate().filter(|entry| *entry.1 > 0) {
         println!("  answer {number}: {times}");
     }
@@ -83,6 +86,7 @@ fn random_lists() {
         assert!(answered[expected] > 0, "answer {expected} never came");
     }
     assert!(windows[1..].iter().all(|seen| *seen) && rounds > RANDOM_LISTS / 10);
+    assert!(with_torn > 0, "no torn cell was recorded");
 }
 
 /// Beside what the paper compares: the resend timers of the w rows before next, acknowledged or not, as only a sending and a

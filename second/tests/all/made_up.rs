@@ -3,7 +3,7 @@
 use super::{limits, supply};
 use second::built::{Counts, Link, Reply};
 use second::draw_link::sound_link;
-use second::limits::{number, Refusal};
+use second::limits::{number, Refusal, CELLS, TORN_CELL};
 use second::random::Random;
 
 /// After each event the link is sound; a refused one changes nothing; the counts are the rises; a run of one is the same.
@@ -50,7 +50,7 @@ fn every_event_on_made_up_links() {
 }
 
 /// Changes of the link below, each of which breaks one clause of question 4.
-const BROKEN: [fn(&mut Link); 29] = [
+const BROKEN: [fn(&mut Link); 32] = [
     |link| link.limits.window = 0,
     |link| link.limits.window = 33,
     |link| link.limits.data_life = 0,
@@ -78,17 +78,26 @@ const BROKEN: [fn(&mut Link); 29] = [
     |link| link.replies.messages[1].last = 6,
     |link| link.replies.messages[0].last = 2, // span 4
     |link| link.data.messages[1].row[15] = 4096,
+    |link| link.data.messages[0].row[0] = 65_534,
     |link| link.mat.rows[0][0] = 4096,
-    |link| link.pad.rows[1][7] = 65535,
+    |link| link.mat.rows[2][15] = 65_534, // marked
+    |link| link.pad.rows[1][7] = 4096,
+    |link| link.pad.rows[1][8] = 65_534,
 ];
 
 /// Changes of what question 4 does not look at, or lets pass.
-const FREE: [fn(&mut Link); 8] = [
+const FREE: [fn(&mut Link); 14] = [
     |link| link.mat.marked[3] = true,
     |link| link.mat.timers[3] = 65535,
     |link| link.pad.timers[31] = 65535,
     |link| link.mat.rows[3][0] = 4096,
+    |link| link.mat.rows[3][0] = 65_534,
     |link| link.pad.rows[0][0] = 4096,
+    |link| link.pad.rows[0][0] = 65_534,
+    |link| link.data.messages[2].row[0] = 65_534,
+    |link| link.mat.rows[0] = [TORN_CELL; CELLS],
+    |link| link.pad.rows[1][7] = TORN_CELL,
+    |link| link.data.messages[1].row[15] = TORN_CELL,
     |link| link.data.messages[2].life = 65535,
     |link| link.replies.messages[2].first = 255,
     |link| link.pad.wanted = 5,

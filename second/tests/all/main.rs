@@ -13,24 +13,26 @@ mod page;
 mod page_checks;
 mod program;
 mod shrink;
+mod torn;
+mod torn_checks;
 mod trial;
 
 use second::built::{Counts, Link};
-use second::compare::{compare, ones, Call, Case};
+use second::compare::{compare, ones, Call, Case, UNWRITTEN};
 use second::limits::{Limits, CELLS};
 
 fn limits(window: usize, data_life: u16, reply_life: u16, reply_wait: u16, resend_wait: u16) -> Limits {
     Limits { window, data_life, reply_life, reply_wait, resend_wait }
 }
 
-/// Rows that all differ, with legal cells.
+/// Rows that all differ, with legal cells, none of them torn.
 fn supply(rows: usize) -> Vec<u16> {
     (0..rows * CELLS).map(|cell| (cell * 1021 % 4096) as u16).collect()
 }
 
 /// A record buffer whose cells are no legal cells, so that a written row shows.
 fn record(rows: usize) -> Vec<u16> {
-    vec![0xFFFF; rows * CELLS]
+    vec![UNWRITTEN; rows * CELLS]
 }
 
 /// A list as the paper writes it.

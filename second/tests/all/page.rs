@@ -1,7 +1,7 @@
 //! Pages: lines byte by byte, each question's edge, their order, and what stays.
 
 use super::supply;
-use second::limits::{number, Refusal};
+use second::limits::{number, Refusal, TORN_CELL};
 use second::page::{page, shade, LINE_LENGTH, MOST_ROWS, PAGE_ROWS};
 
 /// What stands in a buffer before a call: no page has such a byte.
@@ -37,8 +37,9 @@ fn refused(record: &[u16], p: u64, length: usize, expected: u8) {
 fn shades() {
     for cell in 0..=4095u16 {
         let expected = FIRST.iter().rposition(|first| *first <= cell).expect("a shade");
-        assert_eq!(usize::from(shade(cell)), expected, "cell {cell}");
+        assert_eq!(shade(cell).map(usize::from), Some(expected), "cell {cell}");
     }
+    assert_eq!(shade(TORN_CELL), None);
 }
 
 /// Both ends of every shade.
@@ -168,7 +169,7 @@ fn pages_that_wrap() {
 #[test]
 fn cells_on_and_off_the_page() {
     let (first, last) = (60 * 16, 120 * 16 - 1);
-    for cell in [4096, 4097, 32_768, 65_535] {
+    for cell in [4096, 4097, 32_768, 65_533, 65_534] {
         for at in [first, first + 1, first + 500, last - 1, last] {
             let mut record = supply(180);
             record[at] = cell;

@@ -3,10 +3,11 @@
 //! A variant is the right call with one thing done wrong before or after it, so that the code that is tested has no switch.
 
 use second::library::PageLibrary;
-use second::limits::{legal, number, Refusal, CELLS};
+use second::limits::{legal, legal_cell, number, Refusal, CELLS, TORN_CELL};
+use second::met::torn;
 use second::page::{page, LINE_LENGTH, MOST_ROWS, PAGE_ROWS};
 use second::page_checks::{pages, Answered};
-use second::page_lists::PageCall;
+use second::page_lists::{places, PageCall};
 use second::report::Replay;
 use second::threads::Amount;
 
@@ -24,6 +25,14 @@ enum Wrong {
     Zeros,
     /// The shade is rounded to the nearest.
     Rounded,
+    /// A torn cell is shown as the darkest shade.
+    Shaded,
+    /// Question 12 refuses a torn cell.
+    Torn,
+    /// Question 12 lets the number below a torn cell pass.
+    BelowTorn,
+    /// Question 12 lets the number above the greatest whole cell pass.
+    AboveWhole,
     /// The last line has no line end.
     LastEnd,
     /// Question 12 is asked of the whole record.
@@ -70,12 +79,16 @@ enum Wrong {
     Behind,
 }
 
-const ALL: [Wrong; 27] = [
+const ALL: [Wrong; 31] = [
     Wrong::Rows,
     Wrong::FromOne,
     Wrong::Left,
     Wrong::Zeros,
     Wrong::Rounded,
+    Wrong::Shaded,
+    Wrong::Torn,
+    Wrong::BelowTorn,
+    Wrong::AboveWhole,
     Wrong::LastEnd,
     Wrong::WholeRecord,
     Wrong::RowBefore,
@@ -124,7 +137,12 @@ impl StandIn {
         let rows = record.as_chunks().0;
         let start = p.saturating_mul(PAGE_ROWS as u64).min(rows.len() as u64) as usize;
         let shown = (rows.len() - start).min(PAGE_ROWS);
+        let cells = &record[places(record.len(), p)];
+        let legal_but = |other: u16| cells.iter().all(|cell| legal_cell(*cell) || *cell == other);
         match (self.0, right) {
+            (Wrong::Torn, 0 | 32) if torn(cells) => 12,
+            (Wrong::BelowTorn, 12) if legal_but(TORN_CELL - 1) => 0,
+            (Wrong::AboveWhole, 12) if legal_but(4096) => 0,
             (Wrong::WholeRecord, 0 | 32) if !rows.iter().all(legal) => 12,
             (Wrong::RowBefore, 0 | 32) if start > 0 && !legal(&rows[start - 1]) => 12,
             (Wrong::RowBehind, 0 | 32) if rows.get(start + shown).is_some_and(|row| !legal(row)) => 12,
@@ -133,7 +151,7 @@ impl StandIn {
             (Wrong::FewerRows, _) if rows.len() == MOST_ROWS => 30,
             (Wrong::PageFirst, 30) if shown == 0 => 31,
             (Wrong::BufferFirst, 12) if length < shown * LINE_LENGTH => 32,
-            (Wrong::FirstCell, 12) if rows[start..start + shown].iter().all(|row| row[0] < 4096) => 0,
+            (Wrong::FirstCell, 12) if rows[start..start + shown].iter().all(|row| legal_cell(row[0])) => 0,
             (Wrong::ByteShort, 32) if length + 1 == shown * LINE_LENGTH => 0,
             _ => right,
         }
@@ -152,6 +170,7 @@ impl StandIn {
                         *digit = b'0' + ((u32::from(*cell) * 10 + 2048) / 4096) as u8;
                     }
                 }
+                Wrong::Shaded => line[6..].iter_mut().filter(|mark| **mark == b'-').for_each(|mark| *mark = b'9'),
                 _ => {}
             }
         }
@@ -235,19 +254,21 @@ fn wrong_pages_are_found() {
     }
 }
 
-/// Random calls that leave out an answer, or pages that wrap.
+/// Random calls that leave out an answer, pages that wrap, or torn cells on a page that is written.
 #[test]
 fn answers_left_out_are_found_out() {
     let call = PageCall { cells: 16, page: 0, bad: None, length: 23 };
     let mut answered = Answered::default();
-    answered.call(&call, 0);
+    answered.call(&call, 0, &[0; CELLS]);
     assert_eq!(answered.all_there(), Ok(()), "too few calls");
-    (0..2000).for_each(|_| answered.call(&call, 0));
+    (0..2000).for_each(|_| answered.call(&call, 0, &[0; CELLS]));
     for missing in [12, 30, 31, 32] {
         assert_eq!(answered.all_there(), Err(format!("pages: never answered {missing}")));
-        answered.call(&call, missing);
+        answered.call(&call, missing, &[TORN_CELL; CELLS]);
     }
     assert_eq!(answered.all_there(), Err("pages: none wraps onto a row".into()));
-    answered.call(&PageCall { page: 1 << 62, ..call }, 31);
+    answered.call(&PageCall { page: 1 << 62, ..call }, 31, &[]);
+    assert_eq!(answered.all_there(), Err("pages: none accepted with a torn cell".into()));
+    answered.call(&call, 0, &[TORN_CELL; CELLS]);
     assert_eq!(answered.all_there(), Ok(()));
 }

@@ -6,9 +6,9 @@ use mathlib.Core.List.{List, [], ◌∷◌}
 use native.Mathlib.Omega.{arith}
 use lib.ListN.{length, get_or, drop, length-drop}
 use lib.Seq.{ext_get_or, get_or-drop}
-use borrow.Author.Tests.{leb-true}
 use Rattle.limits.specs.Lists.{tab, all}
 use Rattle.limits.specs.Cells.{legal_cell, legal_row}
+use Rattle.limits.proofs.Laws.Cells.{legal-small}
 use Rattle.limits.proofs.Laws.Choice.{and_left, and_right, split}
 use Rattle.limits.proofs.Laws.Lists.{is-tab, length-tab, get_or-tab}
 use Rattle.frames.specs.Layout.{byte, cell_at, cell_bytes}
@@ -86,10 +86,10 @@ cons-small b s h small zero = h
 cons-small b s h small (suc i) = small i
 
 pub cells-small : (row : List ℕ) → legal_row row ≡ true → Bytes (cell_bytes row)
-unfolding all legal_cell
+unfolding all
 cells-small [] e = none-small
 cells-small (c ∷ cs) e =
-    let h = leb-true c 4095 (and_left (legal_cell c) (legal_row cs) e) in
+    let h = legal-small c (and_left (legal_cell c) (legal_row cs) e) in
     cons-small (c % 256) (c / 256 ∷ cell_bytes cs) (omega arith)
     (cons-small (c / 256) (cell_bytes cs) (omega arith) (cells-small cs (and_right (legal_cell c) (legal_row cs) e)))
 

@@ -1,17 +1,43 @@
--- Laws on legal cells, as a loop finds them.
-use Prim.Native.Nat.{ℕ, ◌+◌, max}
+-- Laws on legal cells, and on how a loop finds them.
+use Prim.Native.Nat.{ℕ, ◌+◌, ◌%◌, ◌≤◌, ◌<◌, max}
 use mathlib.Core.Path.{◌≡◌, sym, ◌∙◌, ap}
-use mathlib.Core.Bool.{◌&&◌}
+use mathlib.Core.Bool.{true, ◌&&◌, ◌||◌}
 use native.Mathlib.Omega.{arith}
-use lib.Dec.{leb}
-use borrow.Author.Tests.{le-leb, lt-leb}
+use lib.Dec.{eqb, leb}
+use borrow.Author.Tests.{le-leb, lt-leb, eq-eqb, ne_eqb, eqb-true}
 use Rattle.std.specs.Ordering.{ord_max, nat_cmp}
 use Rattle.std.proofs.Common.{Less, Equal, Greater}
 use Rattle.std.specs.Cmp.{nat_cmp_is}
-use Rattle.limits.specs.Cells.{legal_cell}
+use Rattle.limits.specs.Cells.{torn, legal_cell}
+use Rattle.limits.specs.declared.cells.TheConstants.{LEGAL}
 use Rattle.limits.specs.Lists.{tab, all}
 use Rattle.limits.proofs.Laws.Choice.{split, both, and-no-left, and-no-right}
 use Rattle.limits.proofs.Laws.Lists.{flag-turn}
+
+-- a small number is a legal cell
+pub small-legal : (c : ℕ) → c ≤ 4095 → legal_cell c ≡ true
+unfolding legal_cell
+small-legal c h = ap (λ b. b || eqb c torn) (le-leb c 4095 h)
+
+-- of the larger numbers the torn cell alone
+torn-alone : (c : ℕ) → 4095 < c → legal_cell c ≡ eqb c torn
+unfolding legal_cell
+torn-alone c h = ap (λ b. b || eqb c torn) (lt-leb c 4095 h)
+
+-- a legal cell has 16 bits
+pub legal-small : (c : ℕ) → legal_cell c ≡ true → c < 65536
+legal-small c legal =
+    split c 4095
+    (λ low. omega arith)
+    (λ high. let t = eqb-true c torn (sym (torn-alone c high) ∙ legal) in omega arith)
+
+pub level-is : (c e : ℕ) → c < 65536 → e ≡ (c + 1) % 65536 → leb e LEGAL ≡ legal_cell c
+level-is c e h is =
+    split c 4095
+    (λ low. le-leb e LEGAL (omega arith) ∙ sym (small-legal c low))
+    (λ high. split torn c
+    (λ t. le-leb e LEGAL (omega arith) ∙ sym (torn-alone c high ∙ eq-eqb c torn (omega arith)))
+    (λ n. lt-leb e LEGAL (omega arith) ∙ sym (torn-alone c high ∙ ne_eqb c torn (λ z. omega arith))))
 
 -- what `max` gives
 pub greater : (a b : ℕ) → ord_max nat_cmp a b ≡ max a b

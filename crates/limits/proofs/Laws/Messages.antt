@@ -3,17 +3,12 @@ use Prim.Native.Nat.{ℕ, ◌*◌, ◌≤◌, ◌<◌}
 use mathlib.Core.Path.{◌≡◌}
 use mathlib.Core.Bool.{true, ◌&&◌}
 use mathlib.Core.List.{List}
-use Rattle.limits.specs.Cells.{legal_cell, legal_row}
+use Rattle.limits.specs.Cells.{legal_row}
 use lib.Dec.{leb, ltb}
 use borrow.Author.Tests.{ltb-true, leb-true, lt-ltb, le-leb}
 use Rattle.limits.specs.declared.Limits.{Limits}
 use Rattle.limits.specs.Tables.{Data, Reply, span, sound_reply, sound_data}
 use Rattle.limits.proofs.Laws.Choice.{and_left, and_right, both}
-
--- a small number is a legal cell
-pub small-legal : (c : ℕ) → c ≤ 4095 → legal_cell c ≡ true
-unfolding legal_cell
-small-legal c h = le-leb c 4095 h
 
 pub record ReplyFacts (l : Limits) (x : Reply) : Type 0 where
   pub first : x.first < 2 * l.window

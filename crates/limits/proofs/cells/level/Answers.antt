@@ -1,7 +1,7 @@
+use native.Mathlib.Omega.{arith}
 use mathlib.Core.Path.{refl}
-use Rattle.limits.specs.Cells.{legal_cell}
+use Rattle.limits.proofs.Laws.Cells.{level-is}
 use Rattle.limits.proofs.cells.level.Goals as goal
 
 pub returns : goal.returns
-unfolding legal_cell
-returns c = refl
+returns c = level-is _ _ (omega arith) refl
