@@ -2,6 +2,7 @@
 // Stays (fixed memory): writers at a place, as those of `buffers`, and digits one by one, since `write!` gives an error that no
 // contract rules out.
 ghost use Rattle.std.specs.Prelude.{◌≡◌, ◌++◌, map, ◌+◌, ◌≤◌, ◌<◌, length, take, drop};
+ghost use Rattle.limits.specs.Cells.{torn};
 ghost use Rattle.buffers.specs.Ascii.{space};
 ghost use Rattle.buffers.specs.Buffers.{wrote};
 ghost use Rattle.page.specs.Page.{shade, printed, column, number_text, line_text};
@@ -9,7 +10,7 @@ ghost use Rattle.page.specs.Page.{shade, printed, column, number_text, line_text
 use limits::cells::TORN;
 
 fn shade(cell: u16) -> u8
-    requires { cell < 65535 }
+    requires { cell < torn }
     ensures { (result ≡ shade cell) × (result ≤ 159) }
 {
     // Stays (no plainer): each `as` here narrows a number whose bound is proved; `try_from` would give an error that cannot be.
