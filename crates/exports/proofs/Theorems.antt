@@ -1,5 +1,5 @@
 -- What is proved of links in C and of limits beyond the contracts.
-use Prim.Native.Nat.{ℕ, ◌+◌, ◌≤◌, ◌<◌}
+use Prim.Native.Nat.{ℕ, ◌≤◌, ◌<◌}
 use mathlib.Core.Path.{◌≡◌, refl, sym, ◌∙◌, ap, ap₂}
 use mathlib.Core.Bool.{Bool, true, false, ◌&&◌, ◌||◌}
 use mathlib.Core.List.{List, [], ◌∷◌, map}
@@ -63,17 +63,17 @@ times_capped d r p = ap₂ ◌&&◌ (one d) (ap₂ ◌&&◌ (one r) (one p))
         split x 65535 (λ h. ap (between 1 250) (capped-low x h))
         (λ h. ap (between 1 250) (capped-high x h) ∙ sym (high-no 1 250 x (omega arith)))
 
--- the third question: the wait, where the sum of the times is s
+-- the third question: the wait, of which `least` is the least
 abbrev wait : ℕ → ℕ → Bool
-wait s t = eqb t 0 || between (s + 1) 1000 t
+wait least t = eqb t 0 || between least 1000 t
 
-wait-capped : (s t : ℕ) → wait s (capped t) ≡ wait s t
-wait-capped s t =
-    split t 65535 (λ h. ap (wait s) (capped-low t h))
-    (λ h. ap (wait s) (capped-high t h)
-    ∙ high-no (s + 1) 1000 65535 (omega arith)
-    ∙ sym (high-no (s + 1) 1000 t (omega arith))
-    ∙ ap (◌|| between (s + 1) 1000 t) (sym (ne_eqb t 0 (λ e. let q : t ≡ 0 = e in omega arith))))
+wait-capped : (least t : ℕ) → wait least (capped t) ≡ wait least t
+wait-capped least t =
+    split t 65535 (λ h. ap (wait least) (capped-low t h))
+    (λ h. ap (wait least) (capped-high t h)
+    ∙ high-no least 1000 65535 (omega arith)
+    ∙ sym (high-no least 1000 t (omega arith))
+    ∙ ap (◌|| between least 1000 t) (sym (ne_eqb t 0 (λ e. let q : t ≡ 0 = e in omega arith))))
 
 small : (x : ℕ) → between 1 250 x ≡ true → capped x ≡ x
 small x e = capped-low x (let h = leb-true x 250 (and_right (leb 1 x) (leb x 250) e) in omega arith)
@@ -97,8 +97,8 @@ window-capped w =
 pub limits-capped : (w d r p t : ℕ) → first_no (limits_questions (asked w d r p t)) ≡ first_no (limits_questions (raw w d r p t))
 unfolding asked times_fit wait_fits least_wait
 limits-capped w d r p t =
-    ap (λ (b : Bool). numbered b (times (capped d) (capped r) (capped p)) (wait (capped d + capped r + capped p) (capped t))) (window-capped w)
-    ∙ same_number (window_fits w) (times (capped d) (capped r) (capped p)) (times d r p) (wait (capped d + capped r + capped p) (capped t)) (wait (d + r + p) t)
+    ap (λ (b : Bool). numbered b (times (capped d) (capped r) (capped p)) (wait (least_wait (asked w d r p t)) (capped t))) (window-capped w)
+    ∙ same_number (window_fits w) (times (capped d) (capped r) (capped p)) (times d r p) (wait (least_wait (asked w d r p t)) (capped t)) (wait (least_wait (raw w d r p t)) t)
     (times_capped d r p)
     (λ e. let f = three (between 1 250 d) (between 1 250 r) (between 1 250 p) e in
-    ap (λ s. wait s (capped t)) (ap₂ ◌+◌ (ap₂ ◌+◌ (small d f.0) (small r f.1)) (small p f.2)) ∙ wait-capped (d + r + p) t)
+    (λ i. wait (least_wait (raw w (small d f.0 i) (small r f.1 i) (small p f.2 i) t)) (capped t)) ∙ wait-capped (least_wait (raw w d r p t)) t)

@@ -44,7 +44,8 @@ module _ (l : Limits) (h : sound_limits l ≡ true) where
   fresh-mat : mat_state l.window fresh_mat ≡ mat_of l.window fresh
   unfolding tab
   fresh-mat =
-      mat.fresh-state l h
+      let g = good l h in
+      mat.fresh-state l.window g.window-low g.window-high
       ∙ (λ i. record {
         oldest = sym zero-modulo i;
         next = sym zero-modulo i;
@@ -54,7 +55,10 @@ module _ (l : Limits) (h : sound_limits l ≡ true) where
 
   fresh-pad : pad_state l.window fresh_pad ≡ pad_of l.window fresh
   unfolding pick
-  fresh-pad = pad.fresh-state l h ∙ ap (λ n. record { wanted = n; slots = tab l.window (λ i. empty) }) (sym zero-modulo)
+  fresh-pad =
+      let g = good l h in
+      pad.fresh-state l.window g.window-low g.window-high
+      ∙ ap (λ n. record { wanted = n; slots = tab l.window (λ i. empty) }) (sym zero-modulo)
 
   pub fresh-reading : link_state (fresh_link l) ≡ reading l fresh
   unfolding link_state reading

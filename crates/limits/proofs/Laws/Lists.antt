@@ -7,7 +7,7 @@ use native.Mathlib.Numerals.{add-one}
 use native.Mathlib.Omega.{arith}
 use lib.Dec.{eqb, ltb}
 use borrow.Author.Tests.{eqb-true, eqb-false, lt-ltb, le-ltb}
-use lib.ListN.{length, take, drop, get_or, set, length-append, length-take, length-drop, length-set, take-append-drop, get_or-append}
+use lib.ListN.{length, take, drop, get_or, set, replicate, length-append, length-take, length-drop, length-set, length-replicate, take-append-drop, get_or-append, get_or-replicate}
 use lib.Seq.{get_or_at, get_or-append-add, ext_get_or, get_or-drop, get_or-take, get_or-set_same, get_or-set_other}
 use Rattle.limits.specs.Lists.{tab, all, leading, joined}
 use Rattle.limits.specs.Questions.{pick}
@@ -44,6 +44,9 @@ module _ {A : Type 0} where
   pub is-tab : (xs : List A) (n : ℕ) (f : ℕ → A) (d : A) → length xs ≡ n → ((i : ℕ) → i < n → get_or xs i d ≡ f i) → xs ≡ tab n f
   is-tab xs n f d len h =
       ext_get_or d xs (tab n f) (len ∙ sym (length-tab n f)) (λ i k. h i (omega arith) ∙ sym (get_or-tab n f i d (omega arith)))
+
+  pub replicate-tab : (n : ℕ) (x : A) → replicate n x ≡ tab n (λ i. x)
+  replicate-tab n x = is-tab (replicate n x) n (λ i. x) x (length-replicate n x) (λ i h. get_or-replicate n i x x h)
 
   pub drop-tab : (k n : ℕ) (f : ℕ → A) → drop k (tab n f) ≡ tab (n - k) (λ i. f (k + i))
   drop-tab k n f =

@@ -1,5 +1,5 @@
 -- A fresh pad is sound and holds no row.
-use Prim.Native.Nat.{ℕ, ◌+◌, ◌%◌, ◌<◌}
+use Prim.Native.Nat.{ℕ, ◌+◌, ◌%◌, ◌≤◌, ◌<◌}
 use mathlib.Core.Path.{◌≡◌, ap}
 use mathlib.Core.Bool.{true, false}
 use native.Mathlib.Omega.{arith}
@@ -18,14 +18,13 @@ use Rattle.pad.proofs.Laws.Sound.{sound-of}
 fresh-slot : (at : ℕ) → at < 32 → slot_at fresh_pad at ≡ empty
 fresh-slot at h = slot-empty fresh_pad at (get_or-replicate 32 at false false h)
 
-module _ (l : Limits) (h : sound_limits l ≡ true) where
-  pub fresh-state : pad_state l.window fresh_pad ≡ record { wanted = 0; slots = tab l.window (λ i. empty) }
-  unfolding pad_state
-  fresh-state =
-      let g = good l h in
-      ap (λ xs. record { wanted = 0; slots = xs })
-      (tab-ext l.window _ _ (λ i k. fresh-slot ((0 + i) % l.window) (let b = mod-lt (0 + i) {m = l.window} (omega arith) in omega arith)))
+pub fresh-state : (w : ℕ) → 1 ≤ w → w ≤ 32 → pad_state w fresh_pad ≡ record { wanted = 0; slots = tab w (λ i. empty) }
+unfolding pad_state
+fresh-state w some most =
+    ap (λ xs. record { wanted = 0; slots = xs })
+    (tab-ext w _ _ (λ i k. fresh-slot ((0 + i) % w) (let b = mod-lt (0 + i) {m = w} (omega arith) in omega arith)))
 
+module _ (l : Limits) (h : sound_limits l ≡ true) where
   pub fresh-sound : sound_pad l fresh_pad ≡ true
   fresh-sound =
       let g = good l h in

@@ -4,13 +4,10 @@ use mathlib.Core.Path.{◌≡◌, ◌∙◌, ap, ap₂}
 use mathlib.Core.List.{◌++◌}
 use native.Mathlib.Omega.{arith}
 use lib.Dec.{ltb}
-use lib.ListN.{drop, replicate, length-replicate, get_or-replicate}
+use lib.ListN.{drop, replicate}
 use Rattle.limits.specs.Lists.{tab}
 use Rattle.limits.specs.Questions.{pick}
-use Rattle.limits.proofs.Laws.Lists.{is-tab, drop-tab, append-tab}
-
-replicate-tab : {A : Type 0} (n : ℕ) (x : A) → replicate n x ≡ tab n (λ i. x)
-replicate-tab n x = is-tab (replicate n x) n (λ i. x) x (length-replicate n x) (λ i h. get_or-replicate n i x x h)
+use Rattle.limits.proofs.Laws.Lists.{replicate-tab, drop-tab, append-tab}
 
 -- the front of n elements dropped, and n put behind
 pub shifted : {A : Type 0} (w n : ℕ) (f : ℕ → A) (x : A) → n ≤ w → drop n (tab w f) ++ replicate n x ≡ tab w (λ i. pick (ltb i (w - n)) (f (n + i)) x)
