@@ -10,7 +10,7 @@ static const struct matlink_text matlink_texts[] = {
     {MATLINK_DONE, "the event was carried out"},
     {MATLINK_BAD_WINDOW, "the window is not 1 to 32"},
     {MATLINK_BAD_TIMES, "the data life, the reply life or the reply wait is not 1 to 250"},
-    {MATLINK_BAD_WAIT, "the resend wait is neither 0 nor between the three times' sum plus 1 and 1000"},
+    {MATLINK_BAD_WAIT, "the resend wait is neither 0 nor from the three times' sum less 2 to 1000"},
     {MATLINK_UNSOUND, "the link or part handed in is not sound: a limit, number, mark, timer, table or cell breaks question 4"},
     {MATLINK_ODD_EVENTS, "the last event has a kind and no argument"},
     {MATLINK_PARTIAL_ROW, "the supply ends inside a row"},

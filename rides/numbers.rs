@@ -6,7 +6,7 @@ pub const NUMBERS: [(&str, &str); 33] = [
     ("Done", "the event was carried out"),
     ("BadWindow", "the window is not 1 to 32"),
     ("BadTimes", "the data life, the reply life or the reply wait is not 1 to 250"),
-    ("BadWait", "the resend wait is neither 0 nor between the three times' sum plus 1 and 1000"),
+    ("BadWait", "the resend wait is neither 0 nor from the three times' sum less 2 to 1000"),
     ("Unsound", "the link or part handed in is not sound: a limit, number, mark, timer, table or cell breaks question 4"),
     ("OddEvents", "the last event has a kind and no argument"),
     ("PartialRow", "the supply ends inside a row"),

@@ -86,8 +86,7 @@ static void ride(const char *what, uint32_t window, uint32_t data_life, uint32_t
 
 static void openings(void) {
     open_link("good", MATLINK_WINDOW_MOST, MATLINK_TIME_MOST, MATLINK_TIME_MOST, MATLINK_TIME_MOST, MATLINK_RESEND_WAIT_MOST);
-    open_link("resend wait 1001", MATLINK_WINDOW_MOST, MATLINK_TIME_MOST, MATLINK_TIME_MOST, MATLINK_TIME_MOST,
-              MATLINK_RESEND_WAIT_MOST + 1);
+    open_link("resend wait 1001", 1, 2, 2, 2, MATLINK_RESEND_WAIT_MOST + 1);
     open_link("data life 251", MATLINK_WINDOW_MOST, MATLINK_TIME_MOST + 1, 1, 1, 0);
     open_link("window 0", 0, 2, 2, 2, 0);
     open_link("window 33", MATLINK_WINDOW_MOST + 1, 2, 2, 2, 0);
@@ -95,7 +94,8 @@ static void openings(void) {
     open_link("data life 0", 1, 0, 2, 2, 0);
     open_link("reply life 70000", 1, 2, 70000, 2, 0);
     open_link("reply wait 65537", 1, 2, 2, 65537, 0);
-    open_link("resend wait 6", 1, 2, 2, 2, 6);
+    open_link("resend wait 3", 1, 2, 2, 2, 3);
+    open_link("resend wait 4", 1, 2, 2, 2, 4);
     open_link("resend wait 65536", 1, 2, 2, 2, 65536);
     step(8, 1);
     open_link("resend wait 0", 1, 2, 2, 2, 0);
@@ -237,9 +237,9 @@ static void rides(void) {
     ride("five events", 2, 1, 4, list, 10);
     ride("window 65538", 65538, 1, 4, list, 10);
     ride("data life 65537", 2, 65537, 4, list, 10);
-    ride("resend wait 3", 2, 1, 3, list, 10);
+    ride("resend wait 3", 2, 4, 3, list, 10);
     ride("odd bytes", 2, 1, 4, list, 9);
-    ride("odd bytes, resend wait 3", 2, 1, 3, list, 9);
+    ride("odd bytes, resend wait 3", 2, 4, 3, list, 9);
     ride("resend wait 3, data life 0", 2, 0, 3, list, 10);
     ride("data life 0, window 0", 0, 0, 4, list, 10);
     ride("nine events", 2, 1, 4, list, 18);

@@ -56,7 +56,8 @@ lines() { printf '%s\n' "$@"; }
 # Openings that are refused
 printf 'window 0\ndata life 2\nreply life 2\nreply wait 2\n' | prints 'w 0' 0 'refused 1  the window is not 1 to 32'
 printf 'window 1\ndata life 251\nreply life 2\nreply wait 2\n' | prints 'a life of 251' 0 'refused 2  the data life, the reply life or the reply wait is not 1 to 250'
-printf '%sresend wait 6\n' "$limits" | prints 'a wait of the sum' 0 "refused 3  the resend wait is neither 0 nor between the three times' sum plus 1 and 1000"
+printf '%sresend wait 3\n' "$limits" | prints 'a wait of the sum less 3' 0 "refused 3  the resend wait is neither 0 nor from the three times' sum less 2 to 1000"
+printf '%sresend wait 4\n' "$limits" | prints 'a wait of the sum less 2' 0 "$title"$'\nsent 0 acknowledged 0 recorded 0'
 printf '%s' "$limits" | prints 'no events' 0 "$title"$'\nsent 0 acknowledged 0 recorded 0'
 
 # Faults in the text
@@ -205,6 +206,19 @@ sed -n '/^    line  event .*held$/,/^$/s/^    //p' docs/RIDES.md >"$here/excerpt
 [ -s "$here/excerpt" ] && ! grep -vxFf rides/loss-and-resend.out "$here/excerpt" || fails 'docs/RIDES.md: lines that rides/loss-and-resend.out lacks'
 diff <(sed -n 's/^| \([0-9]*\) | `\([A-Za-z]*\)` .*/\2 \1/p' "$here/tables") \
     <(echo 'Done 0'; sed -n 's/^ *Refusal::\([A-Za-z]*\) => \([0-9]*\),$/\1 \2/p' crates/limits/src/answer.rt) || fails 'crates/limits has other numbers'
+
+# The rides with a resend wait that is too short are those that the second implementation prints, and their events are the list of
+# crates/leastwait. docs/TIMERS.md shows the first.
+short_wait() {
+    local name=$1 rows=$((2 * $2))
+    bash second/cargo.sh run --bin short_wait -- "${@:2}" | cmp - "rides/$name.ride" || fails "rides/$name.ride: short_wait ${*:2} prints something else"
+    "$here/ride" --bytes "rides/$name.ride" | tail -c "+$((8 + 32 * rows))" | od -An -v -tu1 -w1 | tr -d ' ' >"$here/out"
+    tr '\n' ' ' <crates/leastwait/specs/Shown.antt | sed "s/.* ${name//-/_} : [^≡]*≡\([^]]*\).*/\1/" | grep -o '[0-9]*' >"$here/expected"
+    [ -s "$here/out" ] && cmp "$here/expected" "$here/out" || fails "rides/$name.ride: other events than crates/leastwait/specs/Shown.antt"
+}
+short_wait short-wait 1 2 2 2 3
+short_wait short-wait-riding 2 5 5 3 10
+sed -n '/^    # A resend wait that is too short/,/^#/s/^    //p' docs/TIMERS.md | diff <(grep . rides/short-wait.ride) - || fails 'docs/TIMERS.md: other lines than rides/short-wait.ride'
 
 if [ "$failed" = 0 ]; then echo "rides: $(ls rides/*.ride | wc -l) rides, their charts, the faults and the tables are as they must be"; fi
 exit "$failed"

@@ -75,7 +75,7 @@ enum matlink_answer {
     MATLINK_DONE = 0,                  /* none was */
     MATLINK_BAD_WINDOW = 1,            /* is the window 1 to 32? */
     MATLINK_BAD_TIMES = 2,             /* are data life, reply life and reply wait 1 to 250? */
-    MATLINK_BAD_WAIT = 3,              /* is the resend wait 0, or from the sum of the three times plus 1 to 1000? */
+    MATLINK_BAD_WAIT = 3,              /* is the resend wait 0, or from the sum of the three times less 2 to 1000? */
     MATLINK_UNSOUND = 4,               /* is the link sound? struct matlink says when it is */
     MATLINK_ODD_EVENTS = 5,            /* is the count of event bytes even? */
     MATLINK_PARTIAL_ROW = 6,           /* is the count of the supply's cells a multiple of 16? */

@@ -179,6 +179,11 @@ impl Link {
         }
     }
 
+    /// A fresh link with limits that no question was put to. For `short_wait` alone, whose waits question 3 refuses.
+    pub(crate) fn unasked(limits: Limits) -> Link {
+        Link { limits, ..Link::default() }
+    }
+
     /// Question 4. The limits come first, as the other clauses rest on them.
     pub fn sound(&self) -> bool {
         let Link { limits, mat, pad, data, replies } = self;
@@ -225,9 +230,9 @@ impl Link {
         Ok(total)
     }
 
-    /// Questions 8 and 9, then the kind's. All questions of an event stand before its first change.
+    /// Questions 8 and 9, then the kind's. All questions of an event stand before its first change. The caller puts 4 and 6.
     #[inline]
-    fn event(&mut self, kind: u8, argument: u8, supply: &[u16], record: &mut [u16]) -> Result<Counts, Refusal> {
+    pub(crate) fn event(&mut self, kind: u8, argument: u8, supply: &[u16], record: &mut [u16]) -> Result<Counts, Refusal> {
         ask((1..=8).contains(&kind), Refusal::Kind)?;
         match kind {
             1 | 4 => ask(argument == 0, Refusal::Argument)?,

@@ -5,7 +5,7 @@ use crate::compare::{different, rows, Call, Case};
 use crate::differ::{counts, difference, ride_difference};
 use crate::draw::{random_case, random_limits};
 use crate::library::{Lent, Library};
-use crate::limits::{Limits, CELLS};
+use crate::limits::{number, Limits, CELLS};
 use crate::matlink::Matlink;
 use crate::met::{torn, Accepted, ENOUGH};
 use crate::report::{Outcome, Replay};
@@ -22,9 +22,10 @@ fn list_difference(library: &dyn Library, case: &Case) -> Option<String> {
     difference(library, case).or_else(whole_ride)
 }
 
-/// A difference, and the case cut to the shortest list that shows one.
-fn cut(library: &dyn Library, case: Case) -> (String, Case) {
-    let fails = |case: &Case| case.limits.accept().is_ok() && list_difference(library, case).is_some();
+/// A difference, and the case cut to the shortest list that shows one. The answer to the opening stays.
+pub(crate) fn cut(library: &dyn Library, case: Case) -> (String, Case) {
+    let opening = number(&case.limits.accept());
+    let fails = |case: &Case| number(&case.limits.accept()) == opening && list_difference(library, case).is_some();
     let cut = if fails(&case) { shortest(case, &fails) } else { case };
     (list_difference(library, &cut).unwrap_or_default(), cut)
 }
@@ -77,23 +78,30 @@ pub fn short_lists(library: &dyn Library, replay: &Replay, length: usize) -> Out
     Ok(format!("all {lists} lists of {length} of {events} events, by {calls} calls: lists to the same state go on together"))
 }
 
+/// Waits at both edges of question 3, at what a 0 stands for, and beyond. Question 2 need not let the times pass.
+fn waits(times: [u16; 3]) -> [u16; 10] {
+    let sum = times.into_iter().fold(0, u16::saturating_add);
+    let [a, b, c] = [3, 2, 1].map(|less| sum.saturating_sub(less));
+    [0, 1, a, b, c, sum, sum.saturating_add(1), 1000, 1001, 65_535]
+}
+
 /// Limits at and beyond every edge, each with an opening, a call for one event, a run and a ride.
 pub fn openings(library: &dyn Library, replay: &Replay, amount: Amount) -> Outcome {
-    let mut all = vec![];
+    let mut limits = vec![];
     for window in (0..=34).chain([255, 256, 65_536, usize::MAX]) {
         for time in [0, 1, 250, 251, 65_535] {
-            for resend_wait in [0, 3, 4, 750, 751, 752, 1000, 1001, 65_535] {
-                all.push([time, 1, 1].map(|time| (window, time, resend_wait)));
-                all.push([1, time, 250].map(|time| (window, time, resend_wait)));
+            for times in [[time, 1, 1], [1, time, 250], [250, 250, time]] {
+                limits.extend(waits(times).map(|resend_wait| limits_of(window, times, resend_wait)));
             }
         }
     }
-    let mut limits: Vec<Limits> = all.iter().map(|[a, b, c]| limits_of(a.0, [a.1, b.1, c.1], a.2)).collect();
     let mut random = amount.random();
     for _ in 0..5000 {
         let mut drawn = random_limits(&mut random);
-        if random.once_in(2) {
-            drawn.resend_wait = random.below(1100) as u16;
+        match random.below(4) {
+            0 => drawn.resend_wait = drawn.least_wait() - 1,
+            1 => drawn.resend_wait = random.below(1100) as u16,
+            _ => {}
         }
         limits.push(drawn);
     }
@@ -110,7 +118,7 @@ pub fn openings(library: &dyn Library, replay: &Replay, amount: Amount) -> Outco
     Ok(format!("{count} openings, {opened} of them done"))
 }
 
-fn limits_of(window: usize, times: [u16; 3], resend_wait: u16) -> Limits {
+pub(crate) fn limits_of(window: usize, times: [u16; 3], resend_wait: u16) -> Limits {
     Limits { window, data_life: times[0], reply_life: times[1], reply_wait: times[2], resend_wait }
 }
 

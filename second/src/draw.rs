@@ -6,21 +6,29 @@ use crate::limits::{Limits, CELLS};
 use crate::random::Random;
 use crate::unbounded::Ends;
 
+/// A resend wait that question 3 lets pass. Mistakes show with the least one and with the three above it, the last of which is
+/// what a 0 stands for, so these come more often.
+pub fn random_wait(random: &mut Random, limits: &Limits) -> u16 {
+    let least = limits.least_wait();
+    match random.below(8) {
+        0..=2 => least,
+        3 | 4 => least + 1 + random.below(3) as u16,
+        5 => 1000,
+        _ => least + random.below(usize::from(1001 - least)) as u16,
+    }
+}
+
 /// Small windows and short times reach the ring's end and the timers' ends sooner, so they come more often.
 pub fn random_limits(random: &mut Random) -> Limits {
     let window = 1 + random.one_of(&[1, 2, 4, 32]);
     let window = 1 + random.below(window - 1);
     let longest = random.one_of(&[1, 2, 4, 20, 250]);
     let mut time = || 1 + random.below(longest) as u16;
-    let (data_life, reply_life, reply_wait) = (time(), time(), time());
-    let least = data_life + reply_life + reply_wait + 1;
-    let resend_wait = match random.below(6) {
-        0 => least,
-        1 => 1000,
-        2 => least + random.below(usize::from(1001 - least)) as u16,
-        _ => 0,
-    };
-    Limits { window, data_life, reply_life, reply_wait, resend_wait }
+    let mut limits = Limits { window, data_life: time(), reply_life: time(), reply_wait: time(), resend_wait: 0 };
+    if !random.once_in(4) {
+        limits.resend_wait = random_wait(random, &limits);
+    }
+    limits
 }
 
 /// An event that fits the state of the ends more often than not: a message that is there, a tick that ends some timer.
@@ -109,7 +117,7 @@ fn random_events(random: &mut Random, limits: Limits, cells: &[u16], space: usiz
     let weights = random_weights(random);
     let refused_once_in = random.one_of(&[2, 10, 40]);
     let supply = rows(cells);
-    let mut ends = Ends::fresh(limits.accept().expect("good limits"));
+    let mut ends = Ends::fresh(limits.accept().unwrap_or(limits));
     let mut events = vec![];
     let length = 20 + random.below(40 + 12 * supply.len());
     for _ in 0..10 * length {
@@ -129,14 +137,19 @@ fn random_events(random: &mut Random, limits: Limits, cells: &[u16], space: usiz
 pub fn random_case(seed: u64) -> Case {
     let mut random = Random::new(seed);
     let limits = random_limits(&mut random);
+    random_case_of(&mut random, limits)
+}
+
+/// A case with these limits, whose resend wait need not be one that question 3 lets pass.
+pub fn random_case_of(random: &mut Random, limits: Limits) -> Case {
     let count = random.below(6 * limits.window + 6);
-    let supply = random_supply(&mut random, count);
+    let supply = random_supply(random, count);
     let space = match random.below(4) {
         0 => random.below(count * CELLS + 1),
         1 => (count + 2) * CELLS,
         _ => count * CELLS,
     };
     let record = (0..space).map(|_| random.next() as u16).collect();
-    let events = random_events(&mut random, limits, &supply, space);
-    Case { limits, supply, record, calls: cut(&mut random, &events) }
+    let events = random_events(random, limits, &supply, space);
+    Case { limits, supply, record, calls: cut(random, &events) }
 }

@@ -1,6 +1,7 @@
 //! Random links such as a caller can make up, the same for the same seed.
 
 use crate::built::{Data, Link, Reply};
+use crate::draw::random_wait;
 use crate::draw_cells::{random_row, ILLEGAL_EDGES};
 use crate::limits::{Limits, CELLS, LARGEST_WINDOW, TABLE_PLACES};
 use crate::random::Random;
@@ -14,7 +15,7 @@ pub fn random_kind(random: &mut Random) -> u8 {
     }
 }
 
-/// Limits that pass questions 1 to 3, with long times and waits as often as short ones.
+/// Limits that pass questions 1 to 3, with long times as often as short ones.
 fn good_limits(random: &mut Random) -> Limits {
     let most = random.one_of(&[1, 2, 4, LARGEST_WINDOW]);
     let window = if random.once_in(4) { most } else { 1 + random.below(most) };
@@ -24,14 +25,8 @@ fn good_limits(random: &mut Random) -> Limits {
         2 => random.one_of(&[2, 3, 249]),
         _ => 1 + random.below(250) as u16,
     };
-    let (data_life, reply_life, reply_wait) = (time(), time(), time());
-    let least = data_life + reply_life + reply_wait + 1;
-    let resend_wait = match random.below(4) {
-        0 => least,
-        1 => 1000,
-        _ => least + random.below(usize::from(1001 - least)) as u16,
-    };
-    Limits { window, data_life, reply_life, reply_wait, resend_wait }
+    let limits = Limits { window, data_life: time(), reply_life: time(), reply_wait: time(), resend_wait: 0 };
+    Limits { resend_wait: random_wait(random, &limits), ..limits }
 }
 
 /// Any sound link: each field is drawn from all that question 4 lets pass, with anything at all where it does not look.
@@ -50,11 +45,12 @@ pub fn drawn_link(random: &mut Random) -> Link {
         2 => limits.reply_life = random.one_of(&[0, 251]),
         3 => limits.reply_wait = random.one_of(&[0, 251]),
         4 => limits.resend_wait = random.one_of(&[0, 1001]),
-        5 => limits.resend_wait = limits.data_life + limits.reply_life + limits.reply_wait,
+        5 => limits.resend_wait = limits.least_wait() - 1,
         _ => {}
     }
     if [limits.data_life, limits.reply_life, limits.reply_wait].contains(&251) {
-        limits.resend_wait = random.one_of(&[752, 1000]);
+        // enough for 251, 250 and 250
+        limits.resend_wait = random.one_of(&[749, 1000]);
     }
     let mut link = link_of(random, limits);
     if random.once_in(24) {

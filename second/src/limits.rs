@@ -130,7 +130,7 @@ pub struct Limits {
     pub reply_life: u16,
     /// How long after its arrival a row may be acknowledged (mrt).
     pub reply_wait: u16,
-    /// The retransmission timeout (tp); 0 asks for the least one.
+    /// The retransmission timeout (tp); 0 asks for `wait_of_0`.
     pub resend_wait: u16,
 }
 
@@ -140,12 +140,34 @@ impl Limits {
         let times = [self.data_life, self.reply_life, self.reply_wait];
         ask((1..=LARGEST_WINDOW).contains(&self.window), Refusal::Window)?;
         ask(times.iter().all(|time| (1..=250).contains(time)), Refusal::Times)?;
-        let least = times.iter().sum::<u16>() + 1;
-        ask(self.resend_wait == 0 || (least..=1000).contains(&self.resend_wait), Refusal::ResendWait)?;
+        let range = self.least_wait()..=1000;
+        ask(self.resend_wait == 0 || range.contains(&self.resend_wait), Refusal::ResendWait)?;
         if self.resend_wait == 0 {
-            self.resend_wait = least;
+            self.resend_wait = self.wait_of_0();
         }
         Ok(self)
+    }
+
+    /// The three times' sum, where question 2 lets them pass.
+    pub fn sum(&self) -> u16 {
+        self.data_life + self.reply_life + self.reply_wait
+    }
+
+    /// The least resend wait: the sum less 2. A row is in the air for at most data life - 1 ticks, then held with a reply timer
+    /// above 0 for at most reply wait - 1, and then its reply is in the air for at most reply life - 1. After one tick more
+    /// nothing is left of a sending. `short_wait` shows that a shorter wait will not do.
+    pub fn least_wait(&self) -> u16 {
+        self.sum() - 2
+    }
+
+    /// What a resend wait of 0 stands for: the sum plus 1.
+    pub fn wait_of_0(&self) -> u16 {
+        self.sum() + 1
+    }
+
+    /// The same with the least resend wait.
+    pub fn with_least_wait(self) -> Limits {
+        Limits { resend_wait: self.least_wait(), ..self }
     }
 
     /// The part of question 4 about limits: they are such as an opening returns.

@@ -211,6 +211,8 @@ fn edges(link: &Matlink) -> Vec<u16> {
     let [window, data_life, reply_life, reply_wait, resend_wait, ..] = link.head();
     let mut all = vec![0, 1, 2, 32, 33, 249, 250, 251, 255, 256, 257, 999, 1000, 1001];
     all.extend(EDGES);
+    let sum = data_life + reply_life + reply_wait;
+    all.extend([3, 2].map(|less| sum.saturating_sub(less)));
     for edge in [window, 2 * window, data_life, reply_life, reply_wait, resend_wait] {
         all.extend([edge.saturating_sub(1), edge, edge.saturating_add(1)]);
     }

@@ -27,7 +27,15 @@ pub const RUN_REACHABLE: [u8; 5] = [0, 4, 5, 6, 7];
 /// Limits at and beyond their edges: the name, and whether a link has it.
 type Edge = (&'static str, fn(&Matlink) -> bool);
 
-const EDGES: [Edge; 8] = [
+/// Whether the resend wait is the three times' sum less so many, and above 0 with times that question 2 lets pass, so that
+/// question 3 alone decides.
+fn wait_below_sum(link: &Matlink, less: u16) -> bool {
+    let times = [link.data_life, link.reply_life, link.reply_wait];
+    let good = times.iter().all(|time| (1..=250).contains(time));
+    good && link.resend_wait > 0 && link.resend_wait + less == times.iter().sum::<u16>()
+}
+
+const EDGES: [Edge; 9] = [
     ("window 0", |link| link.window == 0),
     ("window 33", |link| link.window == 33),
     ("reply wait 0", |link| link.reply_wait == 0),
@@ -35,7 +43,8 @@ const EDGES: [Edge; 8] = [
     ("resend wait 1000", |link| link.resend_wait == 1000),
     ("resend wait 1001", |link| link.resend_wait == 1001),
     ("a resend timer above 751", |link| link.window > 0 && link.mat_timer[0] > 751),
-    ("resend wait of the sum", |link| link.resend_wait == link.data_life + link.reply_life + link.reply_wait),
+    ("resend wait of the sum less 2", |link| wait_below_sum(link, 2)),
+    ("resend wait of the sum less 3", |link| wait_below_sum(link, 3)),
 ];
 
 /// Whether one of the cells is torn.

@@ -7,8 +7,8 @@ use crate::limits::{Limits, CELLS, TORN_CELL};
 use std::collections::HashMap;
 use std::hash::{BuildHasherDefault, Hash, Hasher};
 
-/// The events of these lists, for a window and times of at most 2. Not each event that acts differently is among them: a tick of
-/// 3, 5 or 6 is left to two or more ticks, and of the refused events there are only examples.
+/// The events of these lists, for a window and times of at most 2 and the least resend wait, which is then at most 4. Each event
+/// that acts differently is among them; of the refused events there are only examples.
 pub const EVENTS: [(u8, u8); 23] = [
     (0, 0),
     (1, 0),
@@ -31,7 +31,7 @@ pub const EVENTS: [(u8, u8); 23] = [
     (8, 0),
     (8, 1),
     (8, 2),
-    (8, 4),
+    (8, 3),
     (8, 255),
 ];
 
@@ -91,6 +91,12 @@ impl Hasher for Sum {
     }
 }
 
+/// So many legal rows, at most 256, that all differ. All but each 17th have a torn cell.
+pub fn different_rows(rows: usize) -> Vec<u16> {
+    let cell = |at: usize| if at.is_multiple_of(CELLS + 1) { TORN_CELL } else { (at * 1021 % 4096) as u16 };
+    (0..rows * CELLS).map(cell).collect()
+}
+
 /// Which lists: they begin with so many rows sent, recorded and acknowledged, and go on with so many of EVENTS. Behind the
 /// beginning the record has space for so many rows, and the supply for one more.
 #[derive(Clone, Copy, Debug)]
@@ -106,12 +112,11 @@ pub struct Short {
 }
 
 impl Short {
-    /// Rows that all differ and that are legal, each with a torn cell at another place, and a record whose cells are not legal.
+    /// Rows that all differ, and a record whose cells are not legal.
     pub fn empty_case(&self) -> Case {
         let rows = self.rounds + self.space;
-        let cell = |at: usize| if at.is_multiple_of(CELLS + 1) { TORN_CELL } else { (at * 1021 % 4096) as u16 };
-        let supply = (0..(rows + 1) * CELLS).map(cell).collect();
-        Case { limits: self.limits, supply, record: vec![UNWRITTEN; rows * CELLS], calls: vec![] }
+        let record = vec![UNWRITTEN; rows * CELLS];
+        Case { limits: self.limits, supply: different_rows(rows + 1), record, calls: vec![] }
     }
 
     /// Puts all of them to whatever has states. Lists that lead to the same state go on together, as a call reads nothing but the
@@ -177,7 +182,8 @@ fn longer<S: Eq + Hash>(
     Ok(next)
 }
 
-/// From a fresh link and from the last number before the ring's end, with enough space and with space for one row.
+/// From a fresh link and from the last number before the ring's end, with enough space and with space for one row. The resend
+/// wait is the least one: a list that is done with a longer one is done with it, too.
 pub fn all_short(length: usize) -> Vec<Short> {
     let mut all = vec![];
     for window in [1, 2] {
@@ -185,7 +191,7 @@ pub fn all_short(length: usize) -> Vec<Short> {
             for times in 0..8u16 {
                 let (data_life, reply_life, reply_wait) = (1 + (times & 1), 1 + (times >> 1 & 1), 1 + (times >> 2));
                 let limits = Limits { window, data_life, reply_life, reply_wait, resend_wait: 0 };
-                all.push(Short { limits, rounds, space, length });
+                all.push(Short { limits: limits.with_least_wait(), rounds, space, length });
             }
         }
     }

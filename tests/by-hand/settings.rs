@@ -50,7 +50,7 @@ impl Setting {
     fn new(tick: u64, delay: u64, hold: u64) -> Self {
         let ticks = |time: u64| time.div_ceil(tick) + 1;
         let (interval, delay, life, reply_wait) = (SECOND / 50, [delay; 2], [ticks(delay); 2], ticks(hold));
-        let resend_wait = life[DATA] + life[REPLIES] + reply_wait + 1;
+        let resend_wait = life[DATA] + life[REPLIES] + reply_wait - 2;
         let new = Setting { tick, delay, hold, interval, life, reply_wait, resend_wait, ..Setting::default() };
         Setting { window: (resend_wait * tick + 2 * new.round_trip()).div_ceil(interval) as usize, ..new }
     }
@@ -292,7 +292,7 @@ fn main() {
     let messages = |rides: Vec<_>| worst(&rides, |ride| ride.events.iter().filter(sending).count() as u64);
     let [on, few, paused] = [on, narrow, paused].map(|all| all.map(messages));
     assert!(on[0] == on[1] && on[1] == on[2], "not the same in each setting");
-    println!("(measured: {} messages for {ROWS} rows in each setting)\n8 / 0.24 = 33 rows/s. (measured: {rate:.0})", on[0]);
+    println!("(measured: {} messages for {ROWS} rows in each setting)\n8 / 0.21 = 38 rows/s. (measured: {rate:.0})", on[0]);
     println!("(measured: {}, {} and {} messages)", few[0], few[1], few[2]);
     println!("in lungeing every later row was {} ms late. (measured)", every / MS);
     println!("(measured: {}, {} and {} messages for {ROWS} rows)", paused[0], paused[1], paused[2]);

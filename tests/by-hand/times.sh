@@ -25,6 +25,7 @@ lines() { echo "$1: $(cat "${@:2}" | grep -cvE '^ *(--.*)?$|^use |^pub mod ')"; 
 specs() { for c in "$@"; do find "crates/$c/specs" -name '*.antt' ! -name Laws.antt; done; } # Laws are proofs
 lines 'a ride' $(specs limits unbounded ride)
 lines 'the link and demand 3' crates/events/specs/{State,Rules,View}.antt $(specs lists runs link) $(specs agreement)
+lines 'the least wait' $(specs leastwait)
 lines 'the parts' $(specs tables air mat pad)
 lines 'frames' $(specs buffers frames)
 lines 'a page' $(specs buffers page)

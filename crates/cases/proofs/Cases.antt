@@ -45,7 +45,7 @@ cases w some most =
     -- A
     (for-each some most (λ v. first_no (limits_questions (limits v 0))) refl, refl)
     -- B
-    then for-each some most (λ v. first_no (limits_questions (limits v 3))) refl
+    then (for-each some most (λ v. first_no (limits_questions (limits v 3))) refl, refl)
     then (for-each some most (λ v. first_no (limits_questions (limits v 4))) refl, refl)
     -- C
     then refl

@@ -175,7 +175,7 @@ table w =
     -- A
     opening w 0 (done 4)
     -- B
-    ∷ opening w 3 (refused 3)
+    ∷ opening w 3 (done 3)
     ∷ opening w 4 (done 4)
     -- C
     ∷ opening 0 4 (refused 1)

@@ -66,7 +66,7 @@ fn unsound_limits(rt: &impl Print) -> io::Result<()> {
         &row,
     )?;
     resend(rt, b"mat resend, wait 0", tries::of(2, 1, 0), m, 0)?;
-    acknowledge(rt, b"mat reply, wait 3", tries::of(2, 1, 3), 0, 0, 0)?;
+    acknowledge(rt, b"mat reply, wait 3", tries::of(2, 2, 3), 0, 0, 0)?;
     tick(rt, b"mat tick, wait 1001", tries::of(2, 1, 1001), m, 1)
 }
 

@@ -1,5 +1,5 @@
 -- The limits of a link, in ticks, and questions 1 to 3.
-use Rattle.std.specs.Prelude.{ℕ, ◌+◌, Bool, not, ◌&&◌, ◌||◌, List, [], ◌∷◌, eqb, leb}
+use Rattle.std.specs.Prelude.{ℕ, ◌+◌, ◌-◌, Bool, not, ◌&&◌, ◌||◌, List, [], ◌∷◌, eqb, leb}
 use Rattle.limits.specs.declared.Limits.{Limits}
 use Rattle.limits.specs.Questions.{pick, Question, ask, first_no}
 
@@ -11,7 +11,7 @@ sum_of_times l = l.datalife + l.replylife + l.replywait
 
 -- the shortest resend wait that question 3 takes, besides 0
 unfoldable pub least_wait : Limits → ℕ
-least_wait l = sum_of_times l + 1
+least_wait l = sum_of_times l - 2
 
 -- the resend wait that a 0 stands for
 unfoldable pub default_wait : Limits → ℕ

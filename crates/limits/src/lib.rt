@@ -56,18 +56,17 @@ fn times_fit(l: Limits) -> bool
 
 fn sum_of_times(l: Limits) -> u16
     requires { times_fit l ≡ true }
-    ensures { (result ≡ sum_of_times l) × (result ≤ 750) }
+    ensures { (result ≡ sum_of_times l) × (3 ≤ result) × (result ≤ 750) }
 {
     l.datalife + l.replylife + l.replywait
 }
 
 // Stays (no plainer): that the times fit is a clause of what is asked behind them, since the questions are put in order.
-// Stays (no plainer): the least wait that question 3 takes and the one that 0 stands for are two rules, alike today.
 fn least_wait(l: Limits) -> u16
     requires { times_fit l ≡ true }
     ensures { result ≡ least_wait l }
 {
-    sum_of_times(l) + 1
+    sum_of_times(l) - 2
 }
 
 fn default_wait(l: Limits) -> u16

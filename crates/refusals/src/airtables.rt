@@ -80,7 +80,7 @@ pub fn data_tries(rt: &impl Print) -> io::Result<()> {
     line(
         rt,
         b"data read, wait 3",
-        data_of(1).read(tries::of(2, 1, 3), 0),
+        data_of(1).read(tries::of(2, 2, 3), 0),
     )?;
     line(rt, b"data tick 0", data_of(3).tick(l, 0))?;
     line(rt, b"data tick 65535", data_of(32).tick(l, 65535))?;

@@ -15,7 +15,7 @@ pub fn tries(rt: &impl Print) -> io::Result<()> {
     opening(rt, b"opening times 0", 1, 0, 0)?;
     opening(rt, b"opening times 251", 1, 251, 0)?;
     opening(rt, b"opening times 65535", 1, 65535, 65535)?;
-    opening(rt, b"opening wait 3, sum 3", 1, 1, 3)?;
-    opening(rt, b"opening wait 4, sum 3", 1, 1, 4)?;
+    opening(rt, b"opening wait 3, sum 6", 1, 2, 3)?;
+    opening(rt, b"opening wait 4, sum 6", 1, 2, 4)?;
     opening(rt, b"opening wait 1001", 1, 1, 1001)
 }

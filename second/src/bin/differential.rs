@@ -9,7 +9,7 @@ use second::proved::Proved;
 use second::report::{Outcome, Replay};
 use second::threads::Amount;
 use second::trials::{random_trials, short_trials};
-use second::{checks, frame_checks, links, page_checks};
+use second::{checks, frame_checks, links, page_checks, wait_checks};
 use std::process::exit;
 use std::time::Instant;
 
@@ -74,8 +74,9 @@ fn main() {
     asked.part("lists", |a| checks::random_lists(&Proved, &a.replay, a.amount.percent(75)));
     asked.part("links", |a| links::made_up_links(&Proved, &a.replay, a.amount.percent(10)));
     asked.part("damaged", |a| links::damaged_links(&Proved, &a.replay, a.amount.percent(5)));
-    asked.part("short-lists", |a| checks::short_lists(&Proved, &a.replay, 7));
+    asked.part("short-lists", |a| checks::short_lists(&Proved, &a.replay, 8));
     asked.part("openings", |a| checks::openings(&Proved, &a.replay, a.amount));
+    asked.part("waits", |a| wait_checks::waits(&Proved, &a.replay, a.amount, 20));
     asked.part("wide", |_| checks::wide_numbers(&Proved));
     asked.part("readings", |a| frame_checks::readings(&Proved, &a.replay, a.amount));
     asked.part("writings", |a| frame_checks::writings(&Proved, &a.replay, a.amount, 200_000));

@@ -31,9 +31,12 @@ fn a_wait_0_becomes_the_sum_plus_1() {
 }
 
 #[test]
-fn b_wait_3_is_refused_and_4_opened() {
-    assert_eq!(opening(limits(1, 1, 1, 1, 3)), (3, 0));
-    assert_eq!(opening(limits(1, 1, 1, 1, 4)), (0, 4));
+fn b_waits_from_the_sum_less_2_are_opened() {
+    for wait in 1..=4 {
+        assert_eq!(opening(limits(1, 1, 1, 1, wait)), (0, wait));
+    }
+    assert_eq!(opening(limits(1, 2, 1, 1, 1)), (3, 0));
+    assert_eq!(opening(limits(1, 2, 1, 1, 2)), (0, 2));
 }
 
 #[test]

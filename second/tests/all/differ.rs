@@ -171,7 +171,7 @@ fn each_mistake_is_found_by_random_lists() {
 #[test]
 fn mistakes_are_found_by_short_lists() {
     for mistake in MISTAKES {
-        let short = Short { limits: limits(2, 1, 1, 1, 0), rounds: 3, space: 6, length: 7 };
+        let short = Short { limits: limits(2, 1, 1, 1, 1), rounds: 3, space: 6, length: 7 };
         assert!(short.compare(&StandIn(Some(mistake))).is_err(), "{mistake:?}");
     }
 }

@@ -15,8 +15,8 @@ use second::unbounded::Ends;
 /// How many random lists are compared; fewer without optimization, which is some ten times slower.
 const RANDOM_LISTS: u64 = if cfg!(debug_assertions) { 2_000 } else { 30_000 };
 
-/// How long the lists are of which all are compared.
-const LENGTH: usize = if cfg!(debug_assertions) { 5 } else { 9 };
+/// How long the lists are of which all are compared: as long as it takes to find a resend wait that is too short (waits.rs).
+const LENGTH: usize = if cfg!(debug_assertions) { 5 } else { 10 };
 
 /// A failing case as it is reported: its seed, the difference, and the shortest list it can be cut to.
 fn report(seed: u64, case: Case, step: Step) -> String {
@@ -155,7 +155,7 @@ fn all_short_lists() {
     }
 }
 
-/// Whether the lists of 7 events, times 1, find a wrong link.
+/// Whether the lists of 7 events, times 1 and the least resend wait, find a wrong link.
 pub fn found_by_short_lists(wrong: Step) -> bool {
-    all_lists(&Short { limits: limits(2, 1, 1, 1, 0), rounds: 3, space: 6, length: 7 }, wrong).is_err()
+    all_lists(&Short { limits: limits(2, 1, 1, 1, 1), rounds: 3, space: 6, length: 7 }, wrong).is_err()
 }

@@ -57,7 +57,7 @@ const BROKEN: [fn(&mut Link); 32] = [
     |link| link.limits.reply_life = 251,
     |link| link.limits.reply_wait = 0,
     |link| link.limits.resend_wait = 0,
-    |link| link.limits.resend_wait = 18,
+    |link| link.limits.resend_wait = 15, // the sum less 3
     |link| link.limits.resend_wait = 1001,
     |link| link.mat.oldest = 6,
     |link| link.mat.next = 6,
@@ -86,7 +86,8 @@ const BROKEN: [fn(&mut Link); 32] = [
 ];
 
 /// Changes of what question 4 does not look at, or lets pass.
-const FREE: [fn(&mut Link); 14] = [
+const FREE: [fn(&mut Link); 15] = [
+    |link| link.limits.resend_wait = 16, // the sum less 2
     |link| link.mat.marked[3] = true,
     |link| link.mat.timers[3] = 65535,
     |link| link.pad.timers[31] = 65535,

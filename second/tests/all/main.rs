@@ -12,10 +12,13 @@ mod mistakes;
 mod page;
 mod page_checks;
 mod program;
+mod short_wait;
 mod shrink;
 mod torn;
 mod torn_checks;
 mod trial;
+mod wait_checks;
+mod waits;
 
 use second::built::{Counts, Link};
 use second::compare::{compare, ones, Call, Case, UNWRITTEN};

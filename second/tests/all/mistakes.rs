@@ -107,9 +107,10 @@ fn oldest_first(link: &mut Link, kind: u8, argument: u8, supply: &[u16], record:
     step(Some(Mistake::OldestFirst), link, kind, argument, supply, record)
 }
 
-/// The right link agrees with the unbounded ends on the list; the wrong one differs first after this call.
+/// The right link agrees with the unbounded ends on the list, with times of 1 and the least resend wait; the wrong one differs
+/// first after this call.
 fn differs(window: usize, events: &[(u8, u8)], wrong: Step, found: &str) {
-    let limits = limits(window, 1, 1, 1, 4);
+    let limits = limits(window, 1, 1, 1, 1);
     ran(limits, events);
     let case = Case { limits, supply: supply(8), record: record(8), calls: ones(events) };
     let difference = compare_with(&case, wrong).expect("the wrong link differs");
@@ -120,20 +121,20 @@ fn differs(window: usize, events: &[(u8, u8)], wrong: Step, found: &str) {
 /// leads, a late row read as one 2w further on, is shown with Figure 1 of the source.
 #[test]
 fn a_reply_that_covers_every_held_row() {
-    let events = [(1, 0), (1, 0), (6, 0), (3, 0), (8, 4), (2, 1), (2, 0), (3, 1), (4, 0)];
+    let events = [(1, 0), (1, 0), (6, 0), (3, 0), (8, 1), (2, 1), (2, 0), (3, 1), (4, 0)];
     differs(2, &events, every_held_row, "after call 9: counts");
 }
 
 /// The held row whose resend came: the wrong pad has nothing to reply, now and after every further resend.
 #[test]
 fn a_reply_timer_set_at_the_first_arrival_only() {
-    let mut events = vec![(1, 0), (3, 0), (8, 4)];
+    let mut events = vec![(1, 0), (3, 0), (8, 1)];
     for _ in 0..3 {
-        events.extend([(2, 0), (3, 0), (8, 4)]);
+        events.extend([(2, 0), (3, 0), (8, 1)]);
     }
     events.extend([(2, 0), (3, 0), (4, 0), (5, 0)]);
     differs(1, &events, first_arrival_only, "after call 5: held row 0");
-    let case = Case { limits: limits(1, 1, 1, 1, 4), supply: supply(8), record: record(8), calls: ones(&events) };
+    let case = Case { limits: limits(1, 1, 1, 1, 1), supply: supply(8), record: record(8), calls: ones(&events) };
     let (_, mut link) = Link::open(case.limits);
     let mut answers = vec![];
     for &(kind, argument) in &events {
@@ -146,7 +147,7 @@ fn a_reply_timer_set_at_the_first_arrival_only() {
 /// The second resend at once: two messages of one row are in the air.
 #[test]
 fn a_resend_timer_started_once() {
-    differs(1, &[(1, 0), (8, 4), (2, 0), (2, 0)], first_sending_only, "after call 3: mark and resend timer of row 0");
+    differs(1, &[(1, 0), (8, 1), (2, 0), (2, 0)], first_sending_only, "after call 3: mark and resend timer of row 0");
 }
 
 /// A reply of rows 3 and 4, numbers 3 and 0.

@@ -28,3 +28,11 @@ fn a_case_is_cut() {
     assert_eq!((cut.limits, cut.supply.len(), cut.record.len()), (limits(1, 1, 1, 1, 0), 0, 0));
     assert_eq!(text(&cut), "window 1\ndata life 1\nreply life 1\nreply wait 1\nsend\ntick 10");
 }
+
+/// The least resend wait is left where the longer one that a 0 stands for does not fail.
+#[test]
+fn a_short_wait_is_cut_to_the_least() {
+    let fails = |case: &Case| case.limits.accept().is_ok_and(|limits| limits.resend_wait <= 3);
+    let case = Case { limits: limits(4, 2, 2, 1, 3), supply: vec![], record: vec![], calls: vec![] };
+    assert_eq!(shortest(case, &fails).limits, limits(1, 1, 1, 1, 1));
+}

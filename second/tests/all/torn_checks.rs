@@ -95,7 +95,7 @@ fn another_rule_is_found_by_random_lists() {
 }
 
 /// Every answer that there can be, in calls enough, and drawn links that are changed.
-fn met(change: fn(&mut Link)) -> Met {
+pub fn met(change: fn(&mut Link)) -> Met {
     let mut met = Met::default();
     for (kind, answers) in (0..).zip(REACHABLE) {
         for answer in answers.iter().chain(&[4, 6]) {

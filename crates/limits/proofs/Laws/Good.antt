@@ -1,5 +1,5 @@
 -- What limits that pass their questions are known to satisfy.
-use Prim.Native.Nat.{ℕ, ◌+◌, ◌≤◌}
+use Prim.Native.Nat.{ℕ, ◌+◌, ◌-◌, ◌≤◌}
 use mathlib.Core.Path.{◌≡◌, refl}
 use mathlib.Core.Bool.{Bool, true, false, ◌&&◌}
 use native.Mathlib.Omega.{arith}
@@ -101,7 +101,12 @@ good l e =
     passes-good l (passes l (eqb-true _ _ (and_left (eqb (first_no (limits_questions l)) 0) _ e)))
     (not-true _ (and_right (eqb (first_no (limits_questions l)) 0) _ e))
 
-all_pass : (l : Limits) → Passes l → first_no (limits_questions l) ≡ 0
+-- a wait from the sum less 2 to 1000 passes question 3
+pub least-passes : (l : Limits) → between (sum_of_times l - 2) 1000 l.resendwait ≡ true → wait_fits l ≡ true
+unfolding wait_fits least_wait
+least-passes l e = test (eqb l.resendwait 0) (λ z. rw z refl) (λ z. rw z e)
+
+pub all_pass : (l : Limits) → Passes l → first_no (limits_questions l) ≡ 0
 all_pass l p = pick_yes _ _ _ _ p.window (pick_yes _ _ _ _ p.times (pick_yes _ _ _ _ p.wait refl))
 
 -- the wait of accepted limits: the one asked for, or the default
@@ -109,7 +114,7 @@ accepted-wait : (l : Limits) → Passes l → wait_fits (accepted l) ≡ true
 unfolding accepted wait_fits pick least_wait default_wait
 accepted-wait l p =
     test (eqb l.resendwait 0)
-    (λ e. rw (e, ne_eqb (sum_of_times l + 1) 0 (λ z. omega arith)) (let t = times l p.times in in_between (sum_of_times l + 1) 1000 (sum_of_times l + 1) (omega arith) (omega arith)))
+    (λ e. rw (e, ne_eqb (sum_of_times l + 1) 0 (λ z. omega arith)) (let t = times l p.times in in_between (sum_of_times l - 2) 1000 (sum_of_times l + 1) (omega arith) (omega arith)))
     (λ e. rw e p.wait)
 
 -- accepted limits are sound

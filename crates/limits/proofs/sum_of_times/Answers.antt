@@ -10,4 +10,4 @@ pub overflow_add-result-2 : goal.overflow_add-result-2
 overflow_add-result-2 c = let t = times _ c.requires in omega arith
 
 pub returns : goal.returns
-returns c = let t = times _ c.requires in (refl, omega arith)
+returns c = let t = times _ c.requires in (refl, omega arith, omega arith)

@@ -1,0 +1,2 @@
+pub mod NoShorterWait
+pub mod Shown
