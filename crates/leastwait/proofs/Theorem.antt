@@ -1,5 +1,5 @@
 -- No resend wait below the least one would do, and question 3 asks for no longer one.
-use Prim.Native.Nat.{ℕ, ◌+◌, ◌-◌, ◌*◌, ◌≤◌}
+use Prim.Native.Nat.{ℕ, ◌+◌, ◌-◌, ◌*◌, ◌%◌, ◌≤◌}
 use mathlib.Core.Path.{◌≡◌, refl, ◌∙◌, ap, subst}
 use mathlib.Core.Bool.{true, false, not}
 use mathlib.Core.List.{List, [], ◌∷◌, ◌++◌, append_assoc}
@@ -19,7 +19,7 @@ use Rattle.limits.proofs.Laws.Good.{Times, times, between-low, between-high, lea
 use Rattle.limits.proofs.Laws.Questions.{first-stays}
 use Rattle.events.specs.State.{Moved}
 use Rattle.runs.specs.View.{lent_questions}
-use Rattle.leastwait.specs.NoShorterWait.{too_short, old_row, list_of, list_answers, start, end_of, RecordsAnOldRow, RecordsMoreThanSent, NoShorterWait, ShortWaitsRefused, LongerWaitsPass}
+use Rattle.leastwait.specs.NoShorterWait.{too_short, are_bytes, old_row, list_of, list_answers, start, end_of, RecordsAnOldRow, RecordsMoreThanSent, NoShorterWait, ShortWaitsRefused, LongerWaitsPass}
 use Rattle.leastwait.specs.Shown.{ShownLists}
 use Rattle.leastwait.proofs.Laws.Goes.{Goes}
 use Rattle.leastwait.proofs.Laws.Supply.{rows-left}
@@ -67,7 +67,7 @@ goes l supply before s p given =
 
 pub no-shorter-wait : NoShorterWait
 no-shorter-wait l e =
-    record { always = always; some = some }
+    record { bytes = bytes; always = always; some = some }
   where
     s : Short l
     s = short l e
@@ -75,17 +75,19 @@ no-shorter-wait l e =
     split : Parts l
     split = let t = s.times in let h = s.wait_high in record { in_air = omega arith; at_pad = omega arith; in_reply = omega arith; over = omega arith }
 
+    bytes : are_bytes (list_of l) ≡ true
+    bytes = list-bytes l split s.times
+
     always : (supply before : List ℕ) → all legal_cell supply ≡ true → 16 * (2 * l.window) ≤ length supply → 16 * (2 * l.window + 1) ≤ length before → RecordsAnOldRow l supply before
     always supply before legal rows space =
         let w = s.window_low in
         let sent = take (16 * (2 * l.window)) supply in
         let row = row_at supply 0 in
         let g = goes l supply before s split (record { window = s.window_low; times = s.times; legal = legal; rows = rows; space = space }) in
-        let left-is : (end_of l supply before).buffer ≡ (sent ++ row) ++ drop 16 (drop (16 * (2 * l.window)) before) = ap (λ (x : Moved). x.buffer) g.left in
-        let is : (end_of l supply before).buffer ≡ sent ++ (row ++ drop (16 * (2 * l.window + 1)) before)
+        let left-is : (end_of l (list_of l) supply before).buffer ≡ (sent ++ row) ++ drop 16 (drop (16 * (2 * l.window)) before) = ap (λ (x : Moved). x.buffer) g.left in
+        let is : (end_of l (list_of l) supply before).buffer ≡ sent ++ (row ++ drop (16 * (2 * l.window + 1)) before)
         = left-is ∙ append_assoc sent row (drop 16 (drop (16 * (2 * l.window)) before)) ∙ ap (λ xs. sent ++ (row ++ xs)) (rows-left (2 * l.window) before) in
         record {
-          are_bytes = list-bytes l split s.times;
           answered = g.answered;
           sent = ap (λ (x : Moved). x.counts.sent) g.left;
           recorded = ap (λ (x : Moved). x.counts.recorded) g.left;
@@ -102,6 +104,9 @@ no-shorter-wait l e =
     long : (n : ℕ) → 16 * n ≤ length (zeros n)
     long n = let same : length (zeros n) ≡ 16 * n = length-replicate (16 * n) 0 in omega arith
 
+    whole : (n : ℕ) → length (zeros n) % 16 ≡ 0
+    whole n = let same : length (zeros n) ≡ 16 * n = length-replicate (16 * n) 0 in omega arith
+
     some : RecordsMoreThanSent l
     some =
         let rows = zeros (2 * l.window) in
@@ -109,10 +114,11 @@ no-shorter-wait l e =
         let legal = zeros-legal (16 * (2 * l.window)) in
         let x = always rows space legal (long (2 * l.window)) (long (2 * l.window + 1)) in
         record {
-          bytes = list_of l;
+          list = list_of l;
           supply = rows;
           before = space;
-          are_bytes = x.are_bytes;
+          bytes = bytes;
+          whole_rows = whole (2 * l.window);
           legal = legal;
           long_enough = ap (all (λ n. not (eqb n 21))) x.answered ∙ answers-not-21 l;
           more = let a = x.sent in let b = x.recorded in omega arith;
@@ -120,8 +126,14 @@ no-shorter-wait l e =
 
 pub short-waits-refused : ShortWaitsRefused
 unfolding wait_fits least_wait
-short-waits-refused l bytes supply before after answers_before answers_after r e rode =
-    rode.number ∙ first-stays (limits_questions l) (lent_questions bytes supply answers_before) (ap (λ n. eqb n 0) refused) ∙ refused
+short-waits-refused l e =
+    record {
+      opening = opening;
+      riding =
+          λ bytes supply before after answers_before answers_after r rode. rode.number
+          ∙ first-stays (limits_questions l) (lent_questions bytes supply answers_before) (ap (λ n. eqb n 0) opening)
+          ∙ opening;
+    }
   where
     s : Short l
     s = short l e
@@ -131,8 +143,8 @@ short-waits-refused l bytes supply before after answers_before answers_after r e
         rw (ne_eqb l.resendwait 0 (λ z. let h = s.wait_low in omega arith))
         (and-no-left _ (leb l.resendwait 1000) (lt-leb (sum_of_times l - 2) l.resendwait (let t = s.times in let h = s.wait_high in omega arith)))
 
-    refused : first_no (limits_questions l) ≡ 3
-    refused = pick_yes _ _ _ _ s.window_fits (pick_yes _ _ _ _ s.times_fit (pick_no _ _ _ _ low refl))
+    opening : first_no (limits_questions l) ≡ 3
+    opening = pick_yes _ _ _ _ s.window_fits (pick_yes _ _ _ _ s.times_fit (pick_no _ _ _ _ low refl))
 
 pub longer-waits-pass : LongerWaitsPass
 longer-waits-pass l w t e = all_pass l (record { window = w; times = t; wait = least-passes l e })

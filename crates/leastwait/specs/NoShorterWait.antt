@@ -1,6 +1,6 @@
 -- No resend wait below the three times' sum less 2 is long enough. For every shorter one, from 1 on, here is a list of events, and what
 -- the rules of the built ends make of it where question 3 is not asked: the supply's first row is recorded a second time, as row 2w.
-use Rattle.std.specs.Prelude.{ℕ, ◌+◌, ◌-◌, ◌*◌, ◌≡◌, ◌≤◌, ◌<◌, min, Bool, true, not, ◌&&◌, List, [], ◌∷◌, ◌++◌, eqb, leb, length, take, drop, replicate, Result}
+use Rattle.std.specs.Prelude.{ℕ, ◌+◌, ◌-◌, ◌*◌, ◌%◌, ◌≡◌, ◌≤◌, ◌<◌, min, Bool, true, not, ◌&&◌, List, [], ◌∷◌, ◌++◌, eqb, leb, length, take, drop, replicate, Result}
 use Rattle.limits.specs.declared.Limits.{Limits}
 use Rattle.limits.specs.declared.answer.Refusal.{Refusal}
 use Rattle.limits.specs.Answer.{number_of}
@@ -60,43 +60,53 @@ list_answers l =
 abbrev pub start : Limits → List ℕ → Moved
 start l before = unmoved (link_state (fresh_link l)) before
 
-abbrev pub end_of : Limits → List ℕ → List ℕ → Moved
-end_of l supply before = after_all supply (start l before) (events (list_of l))
+-- what a list of bytes leaves of them, and what it answers
+abbrev pub end_of : Limits → List ℕ → List ℕ → List ℕ → Moved
+end_of l bytes supply before = after_all supply (start l before) (events bytes)
+
+abbrev pub answers_of : Limits → List ℕ → List ℕ → List ℕ → List ℕ
+answers_of l bytes supply before = answers supply (start l before) (events bytes)
 
 -- What the list does: these answers, of which none is 21, and a row more recorded than sent. The record is the supply's first 2w rows, then
 -- its row 0 again, and then what stood there.
 pub record RecordsAnOldRow (l : Limits) (supply before : List ℕ) : Type 0 where
-  pub are_bytes : all (λ n. leb n 255) (list_of l) ≡ true
-  pub answered : answers supply (start l before) (events (list_of l)) ≡ list_answers l
-  pub sent : (end_of l supply before).counts.sent ≡ 2 * l.window
-  pub recorded : (end_of l supply before).counts.recorded ≡ 2 * l.window + 1
-  pub record_is : (end_of l supply before).buffer ≡ take (16 * (2 * l.window)) supply ++ (row_at supply 0 ++ drop (16 * (2 * l.window + 1)) before)
-  pub last_row : row_at (end_of l supply before).buffer (2 * l.window) ≡ row_at supply 0
+  pub answered : answers_of l (list_of l) supply before ≡ list_answers l
+  pub sent : (end_of l (list_of l) supply before).counts.sent ≡ 2 * l.window
+  pub recorded : (end_of l (list_of l) supply before).counts.recorded ≡ 2 * l.window + 1
+  pub record_is : (end_of l (list_of l) supply before).buffer ≡ take (16 * (2 * l.window)) supply ++ (row_at supply 0 ++ drop (16 * (2 * l.window + 1)) before)
+  pub last_row : row_at (end_of l (list_of l) supply before).buffer (2 * l.window) ≡ row_at supply 0
+
+abbrev pub are_bytes : List ℕ → Bool
+are_bytes xs = all (λ n. leb n 255) xs
 
 -- The request's own words: some list of events from fresh, with legal supply and record long enough, records more rows than were sent.
 pub record RecordsMoreThanSent (l : Limits) : Type 0 where
-  pub bytes : List ℕ
+  pub list : List ℕ
   pub supply : List ℕ
   pub before : List ℕ
-  pub are_bytes : all (λ n. leb n 255) bytes ≡ true
+  pub bytes : are_bytes list ≡ true
+  pub whole_rows : length supply % 16 ≡ 0
   pub legal : all legal_cell supply ≡ true
-  pub long_enough : all (λ n. not (eqb n 21)) (answers supply (start l before) (events bytes)) ≡ true
-  pub more : (after_all supply (start l before) (events bytes)).counts.sent < (after_all supply (start l before) (events bytes)).counts.recorded
+  pub long_enough : all (λ n. not (eqb n 21)) (answers_of l list supply before) ≡ true
+  pub more : (end_of l list supply before).counts.sent < (end_of l list supply before).counts.recorded
 
 -- The list does it with every supply of 2w legal rows and every record with space for one row more.
 pub record Fails (l : Limits) : Type 0 where
+  pub bytes : are_bytes (list_of l) ≡ true
   pub always : (supply before : List ℕ) → all legal_cell supply ≡ true → 16 * (2 * l.window) ≤ length supply → 16 * (2 * l.window + 1) ≤ length before → RecordsAnOldRow l supply before
   pub some : RecordsMoreThanSent l
 
 abbrev pub NoShorterWait : Type 0
 NoShorterWait = (l : Limits) → too_short l ≡ true → Fails l
 
--- A ride with such limits is refused with 3, whatever its events are.
+-- Such limits are refused with 3, and so is a ride with them, whatever its events are.
+pub record Refused (l : Limits) : Type 0 where
+  pub opening : first_no (limits_questions l) ≡ 3
+  pub riding : (bytes supply before after answers_before answers_after : List ℕ) (r : Result Counts Refusal) → Rode l bytes supply before after answers_before answers_after r
+      → number_of r ≡ 3
+
 abbrev pub ShortWaitsRefused : Type 0
-ShortWaitsRefused =
-    (l : Limits) (bytes supply before after answers_before answers_after : List ℕ) (r : Result Counts Refusal) → too_short l ≡ true
-    → Rode l bytes supply before after answers_before answers_after r
-    → number_of r ≡ 3
+ShortWaitsRefused = (l : Limits) → too_short l ≡ true → Refused l
 
 -- And question 3 asks for no longer one: every wait from the sum less 2 to 1000 passes.
 abbrev pub LongerWaitsPass : Type 0

@@ -106,35 +106,10 @@ fn true_numbers_agree() {
     }
 }
 
-/// The whole text for one window, two ticks of 0 in another.
+/// The whole text for some limits, ticks of 0 for others.
 #[test]
 fn rides_in_words() {
-    let expected = "\
-# A resend wait that is too short: row 0 is sent again while its reply is in the air, and recorded again, as row 2.
-# The opening refuses it with 3: the three times add up to 6, and the resend wait is 3, the sum less 3.
-# The comments say what each event would do on ends that did not ask question 3.
-window 1
-data life 2
-reply life 2
-reply wait 2
-resend wait 3
-rows 2
-
-send                # row 0 goes out as number 0; its resend timer is 3
-tick 1              # row 0 is still in the air with a life of 1; its resend timer is 2
-data 0 arrives      # row 0 is held
-tick 1              # row 0 is still held with a reply timer of 1; its resend timer is 1
-reply               # row 0 is recorded; the pad wants row 1
-tick 1              # the reply for row 0 is still in the air with a life of 1; the resend timer of row 0 is 0
-resend 0            # row 0 goes out again, although its reply is in the air
-reply 0 arrives     # row 0 is acknowledged; a message of it is still in the air
-send                # row 1 goes out as number 1; its resend timer is 3
-data 1 arrives      # row 1 is held
-reply               # row 1 is recorded; the pad wants row 2
-reply 0 arrives     # row 1 is acknowledged
-data 0 arrives      # number 0 is row 0, and is held as row 2
-reply               # row 0 is recorded as row 2: 3 rows recorded, 2 sent
-";
+    let expected = include_str!("../../../rides/short-wait.ride");
     assert_eq!(ride(limits(1, 2, 2, 2, 3)), Ok(expected.into()));
     let short = ride(limits(1, 2, 1, 1, 1)).expect("a ride");
     assert!(short.contains("\ntick 0              # refused 9\n"), "{short}");

@@ -13,18 +13,15 @@ use Rattle.limits.specs.Cells.{legal_cell}
 use Rattle.limits.specs.Questions.{pick}
 use Rattle.limits.proofs.Laws.Choice.{test}
 use Rattle.limits.proofs.Laws.Good.{Times}
-use Rattle.leastwait.specs.NoShorterWait.{data_part, pad_part, reply_part, further_row, old_row, list_of, answer_to_tick, list_answers}
+use Rattle.leastwait.specs.NoShorterWait.{are_bytes, data_part, pad_part, reply_part, further_row, old_row, list_of, answer_to_tick, list_answers}
 use Rattle.leastwait.proofs.Laws.First.{Parts}
 
-abbrev is_byte : ℕ → Bool
-is_byte n = leb n 255
-
-rows-bytes : (k : ℕ) → all is_byte (joined (replicate k further_row) ++ old_row) ≡ true
+rows-bytes : (k : ℕ) → are_bytes (joined (replicate k further_row) ++ old_row) ≡ true
 unfolding all joined
 rows-bytes zero = refl
 rows-bytes (suc k) = rows-bytes k
 
-pub list-bytes : (l : Limits) → Parts l → Times l → all is_byte (list_of l) ≡ true
+pub list-bytes : (l : Limits) → Parts l → Times l → are_bytes (list_of l) ≡ true
 unfolding all
 list-bytes l p t =
     rw (le-leb (data_part l) 255 (omega arith), le-leb (pad_part l) 255 (omega arith), le-leb (reply_part l) 255 (omega arith)) (rows-bytes (2 * l.window - 1))

@@ -50,7 +50,7 @@ module _ (l : Limits) (some : 1 ≤ l.window) (supply written rest : List ℕ) (
         state = link_of l (out (number l n) k (row_at supply sent) (drop 1 timers ++ (l.resendwait ∷ []))) p (put (data_message (number l n) (row_at supply sent) l.datalife) datas) replies;
         counts = record { sent = 1; acknowledged = 0; recorded = 0 };
         buffer = rest;
-      }) (number-next l.window some n))
+      }) (number-next l n))
       refl (omega arith) (omega arith)
 
   -- message `at` carries the wanted number
@@ -65,13 +65,10 @@ module _ (l : Limits) (some : 1 ≤ l.window) (supply written rest : List ℕ) (
       (ap₂ taken made gone)
       (omega arith) (omega arith) (omega arith)
     where
-      s : LinkState
-      s = link_of l m (free l.window (number l n)) datas replies
-
       made : pad.arrival l (free l.window (number l n)) (get_or datas at no_data).body ≡ record { state = held l.window (number l n) l.replywait row; old = false; reply = record { first = 0; last = 0 } }
       made =
           ap (λ (x : Message Data). pad.arrival l (free l.window (number l n)) x.body) is
-          ∙ arrived l (number l n) (number l n) row some (no-distance l.window some n)
+          ∙ arrived l (number l n) (number l n) row some (no-distance l some n)
 
       taken : pad.Arrival → List (Message Data) → Moved
       taken y xs =
@@ -90,9 +87,9 @@ module _ (l : Limits) (some : 1 ≤ l.window) (supply written rest : List ℕ) (
   replies-to n timer row m datas some_time enough =
       leaves
       (does supply _ sent acked recorded written rest fits reply _ asks
-      (ap made_of (replied l (number l n) timer row rest some some_time (number-same l.window some n))))
+      (ap made_of (replied l (number l n) timer row rest some some_time (number-same l n))))
       (λ i. record {
-        state = link_of l m (free l.window (number-next l.window some n i)) datas (reply_message (number l n) l.replylife ∷ []);
+        state = link_of l m (free l.window (number-next l n i)) datas (reply_message (number l n) l.replylife ∷ []);
         counts = record { sent = same_sent i; acknowledged = same_acked i; recorded = recorded + 1 };
         buffer = sym (append_assoc written row (drop 16 rest)) i;
       })
@@ -124,12 +121,12 @@ module _ (l : Limits) (some : 1 ≤ l.window) (supply written rest : List ℕ) (
   unfolding remove pick
   acknowledges n life row timers p datas =
       aside _ _ (arrive_reply 0) _ sent (acked + 1)
-      (ap (λ k. pick (leb (k + (k + 1)) 1) 0 19) (no-distance l.window some n))
+      (ap (λ k. pick (leb (k + (k + 1)) 1) 0 19) (no-distance l some n))
       (ap (λ (x : mat.Acknowledging). record {
         state = link_of l x.state p datas [];
         counts = record { sent = 0; acknowledged = x.passed; recorded = 0 };
         buffer = rest;
-      }) (acknowledged l (number l n) (number l (n + 1)) row timers (no-distance l.window some n) (sym (number-next l.window some n))))
+      }) (acknowledged l (number l n) (number l (n + 1)) row timers (no-distance l some n) (sym (number-next l n))))
       (omega arith) refl (omega arith)
 
   -- the timer of the one outstanding row is 0
@@ -144,5 +141,5 @@ module _ (l : Limits) (some : 1 ≤ l.window) (supply written rest : List ℕ) (
         state = link_of l (out (number l n) next row (set (last_timer l.window 0) (l.window - 1 + 0) l.resendwait)) p (data_message k row l.datalife ∷ []) replies;
         counts = record { sent = 0; acknowledged = 0; recorded = 0 };
         buffer = rest;
-      }) (number-same l.window some n))
+      }) (number-same l n))
       (omega arith) (omega arith) (omega arith)

@@ -4,13 +4,12 @@ use mathlib.Core.Path.{◌≡◌, refl, sym, ◌∙◌, ap, ap₂, subst}
 use mathlib.Core.List.{List, [], ◌∷◌, ◌++◌}
 use native.Mathlib.Omega.{arith}
 use native.Mathlib.Nat.{mod-eq_of_lt}
-use lib.ListN.{take, drop, set, replicate}
+use lib.ListN.{length, take, drop, set, replicate}
 use Rattle.limits.specs.declared.Limits.{Limits}
 use Rattle.limits.specs.Cells.{row_at}
 use Rattle.limits.specs.Tables.{remove}
 use Rattle.limits.specs.Events.{Event, send, resend, arrive_data, reply, arrive_reply, event}
 use Rattle.limits.proofs.Laws.Lists.{replicate-tab}
-use Rattle.mat.specs.Window.{MatState}
 use Rattle.mat.specs.View.{mat_state, fresh_mat}
 use Rattle.mat.proofs.Laws.Fresh as mat
 use Rattle.pad.specs.Window.{empty}
@@ -22,9 +21,9 @@ use Rattle.events.specs.View.{link_state}
 use Rattle.link.specs.View.{fresh_link}
 use Rattle.leastwait.specs.NoShorterWait.{data_part, pad_part, reply_part, answer_to_tick, start}
 use Rattle.leastwait.proofs.Laws.Goes.{reached, leaves, Goes, and-then}
-use Rattle.leastwait.proofs.Laws.Forms.{idle, out, free, held, data_message, reply_message, link_of, last_timer, rest-of}
+use Rattle.leastwait.proofs.Laws.Forms.{idle, out, free, data_message, reply_message, link_of, last_timer, rest-of}
 use Rattle.leastwait.proofs.Laws.Events.{sends, arrives, replies-to, acknowledges, resends}
-use Rattle.leastwait.proofs.Laws.Waiting.{in-air, at-pad, in-reply}
+use Rattle.leastwait.proofs.Laws.Waiting.{passes, first_out, in_air, at_pad, in_reply, in-air-falls, at-pad-falls, in-reply-falls}
 use Rattle.leastwait.proofs.Laws.Supply.{number}
 use Rattle.leastwait.proofs.Laws.Rows.{Given, late, rows_done, written-fits}
 
@@ -62,21 +61,19 @@ from-fresh l supply before es ns z some most g = subst (λ s. Goes supply (reach
 abbrev pub timers : Limits → List ℕ
 timers l = set (last_timer l.window 0) (l.window - 1 + 0) l.resendwait
 
--- row 0 is outstanding, with this left on its resend timer
-abbrev first_out : Limits → List ℕ → ℕ → MatState
-first_out l supply timer = out (number l 0) (number l 1) (row_at supply 0) (last_timer l.window timer)
-
 module _ (l : Limits) (supply before : List ℕ) (given : Given l supply before) (p : Parts l) where
+  one-fits : length (take (16 * 1) supply) ≡ 16 * 1
+  one-fits = written-fits l supply before given 1 (let w = given.window in omega arith)
+
   -- row 0 is recorded, its reply is in the air, and the wait is over
   again : (es : List Event) (ns : List ℕ) (z : Moved) → Goes supply (rows_done l supply before 1 (timers l) (late l supply ∷ [])) es ns z
-      → Goes supply (reached (link_of l (first_out l supply 0) (free l.window (number l 1)) [] (reply_message (number l 0) (l.replylife - reply_part l) ∷ [])) 1 0 1 (take (16 * 1) supply) (drop (16 * 1) before))
+      → Goes supply (reached (in_reply l supply 0 (l.replylife - reply_part l)) 1 0 1 (take (16 * 1) supply) (drop (16 * 1) before))
       (resend 0 ∷ arrive_reply 0 ∷ es) (0 ∷ 0 ∷ ns) z
   again es ns z g =
-      let f = written-fits l supply before given 1 (let w = given.window in omega arith) in
       and-then supply _ _ _ (resend 0) _ _ _
-      (resends l given.window supply (take (16 * 1) supply) (drop (16 * 1) before) 1 0 1 f 0 (number l 1) (row_at supply 0) (free l.window (number l 1)) (reply_message (number l 0) (l.replylife - reply_part l) ∷ []))
+      (resends l given.window supply (take (16 * 1) supply) (drop (16 * 1) before) 1 0 1 one-fits 0 (number l 1) (row_at supply 0) (free l.window (number l 1)) (reply_message (number l 0) (l.replylife - reply_part l) ∷ []))
       (and-then supply _ _ _ (arrive_reply 0) _ _ _
-      (acknowledges l given.window supply (take (16 * 1) supply) (drop (16 * 1) before) 1 0 1 f 0 (l.replylife - reply_part l) (row_at supply 0) (timers l) (free l.window (number l 1)) (late l supply ∷ []))
+      (acknowledges l given.window supply (take (16 * 1) supply) (drop (16 * 1) before) 1 0 1 one-fits 0 (l.replylife - reply_part l) (row_at supply 0) (timers l) (free l.window (number l 1)) (late l supply ∷ []))
       g)
 
   abbrev after_data : ℕ
@@ -87,19 +84,20 @@ module _ (l : Limits) (supply before : List ℕ) (given : Given l supply before)
 
   -- row 0 is held: the second part of the wait, the reply, and the third part
   answered : (es : List Event) (ns : List ℕ) (z : Moved) → Goes supply (rows_done l supply before 1 (timers l) (late l supply ∷ [])) es ns z
-      → Goes supply (reached (link_of l (first_out l supply after_data) (held l.window (number l 0) l.replywait (row_at supply 0)) [] []) 1 0 0 [] before)
+      → Goes supply (reached (at_pad l supply after_data l.replywait) 1 0 0 [] before)
       (event 8 (pad_part l) ∷ reply ∷ event 8 (reply_part l) ∷ resend 0 ∷ arrive_reply 0 ∷ es)
       (answer_to_tick (pad_part l) ∷ 0 ∷ answer_to_tick (reply_part l) ∷ 0 ∷ 0 ∷ ns) z
   answered es ns z g =
       and-then supply _ _ _ (event 8 (pad_part l)) _ _ _
-      (at-pad supply [] before 1 0 0 refl l (number l 0) (number l 1) (row_at supply 0) (pad_part l) after_data (number l 0) l.replywait)
+      (passes supply [] before 1 0 0 refl (at_pad l supply) (pad_part l) after_data l.replywait (at-pad-falls l supply (pad_part l) after_data l.replywait))
       (and-then supply _ _ _ reply _ _ _
       (replies-to l given.window supply [] before 1 0 0 refl 0 (l.replywait - pad_part l) (row_at supply 0) (first_out l supply after_pad) []
       (let h = p.at_pad in omega arith) (let h = given.space in omega arith))
       (and-then supply _ _ _ (event 8 (reply_part l)) _ _ _
       (leaves
-      (in-reply supply (row_at supply 0) (drop 16 before) 1 0 1 (written-fits l supply before given 1 (let w = given.window in omega arith)) l (number l 0) (number l 1) (row_at supply 0) (reply_part l) after_pad (number l 1) (number l 0) l.replylife p.in_reply)
-      (ap (λ t. reached (link_of l (first_out l supply t) (free l.window (number l 1)) [] (reply_message (number l 0) (l.replylife - reply_part l) ∷ [])) 1 0 1 (row_at supply 0) (drop 16 before)) p.over))
+      (passes supply (row_at supply 0) (drop 16 before) 1 0 1 one-fits (in_reply l supply) (reply_part l) after_pad l.replylife
+      (in-reply-falls l supply (reply_part l) after_pad l.replylife p.in_reply))
+      (ap (λ t. reached (in_reply l supply t (l.replylife - reply_part l)) 1 0 1 (row_at supply 0) (drop 16 before)) p.over))
       (again es ns z g)))
 
   pub row-recorded : (es : List Event) (ns : List ℕ) (z : Moved) → l.window ≤ 32 → Goes supply (rows_done l supply before 1 (timers l) (late l supply ∷ [])) es ns z
@@ -114,7 +112,7 @@ module _ (l : Limits) (supply before : List ℕ) (given : Given l supply before)
       (sends l given.window supply [] before 0 0 0 refl 0 (replicate l.window 0) (free l.window (number l 0)) [] [] (let r = given.rows in let w = given.window in omega arith) given.legal refl)
       (ap (λ ts. reached (link_of l (out (number l 0) (number l 1) (row_at supply 0) (ts ++ (l.resendwait ∷ []))) (free l.window (number l 0)) (late l supply ∷ []) []) 1 0 0 [] before) (rest-of l.window 0 given.window)))
       (and-then supply _ _ _ (event 8 (data_part l)) _ _ _
-      (in-air supply [] before 1 0 0 refl l (number l 0) (number l 1) (row_at supply 0) (data_part l) l.resendwait (number l 0) (number l 0) l.datalife p.in_air)
+      (passes supply [] before 1 0 0 refl (in_air l supply) (data_part l) l.resendwait l.datalife (in-air-falls l supply (data_part l) l.resendwait l.datalife p.in_air))
       (and-then supply _ _ _ (arrive_data 0) _ _ _
       (arrives l given.window supply [] before 1 0 0 refl 0 0 (l.datalife - data_part l) (row_at supply 0) (first_out l supply after_data)
       (data_message (number l 0) (row_at supply 0) (l.datalife - data_part l) ∷ []) [] [] refl refl refl)

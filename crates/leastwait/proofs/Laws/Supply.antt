@@ -1,10 +1,9 @@
 -- The rows of a supply that is long enough and legal, and the numbers of rows.
-use Prim.Native.Nat.{ℕ, ◌+◌, ◌*◌, ◌%◌, ◌≤◌, ◌<◌}
+use Prim.Native.Nat.{ℕ, ◌+◌, ◌*◌, ◌%◌, ◌≤◌}
 use mathlib.Core.Path.{◌≡◌, sym, ◌∙◌, ap}
 use mathlib.Core.Bool.{Bool, true}
 use mathlib.Core.List.{List, ◌++◌}
 use native.Mathlib.Omega.{arith}
-use native.Mathlib.Nat.{mod-lt, mod-add-mod, mod-eq_of_lt}
 use lib.ListN.{take, drop, take-append-drop}
 use lib.Seq.{take-add, drop-drop}
 use Rattle.limits.specs.declared.Limits.{Limits}
@@ -13,7 +12,7 @@ use Rattle.limits.specs.Cells.{row_at}
 use Rattle.limits.specs.Ring.{distance, step}
 use Rattle.limits.proofs.Laws.Choice.{and_left, and_right}
 use Rattle.limits.proofs.Laws.Lists.{all_append}
-use Rattle.limits.proofs.Laws.Ring.{distance-on}
+use Rattle.agreement.proofs.Laws.Modulo.{step-modulo, distance-modulo}
 
 -- what holds of every element holds in any part
 pub in-part : {A : Type 0} (p : A → Bool) (n m : ℕ) (xs : List A) → all p xs ≡ true → all p (take n (drop m xs)) ≡ true
@@ -34,17 +33,12 @@ rows-left n cells = drop-drop 16 (16 * n) cells ∙ ap (λ k. drop k cells) {x =
 abbrev pub number : Limits → ℕ → ℕ
 number l n = n % (2 * l.window)
 
-module _ (w : ℕ) (some : 1 ≤ w) where
-  number-below : (n : ℕ) → n % (2 * w) < 2 * w
-  number-below n = mod-lt n {m = 2 * w} (omega arith)
+-- the number of the row behind it, and its own
+pub number-next : (l : Limits) (n : ℕ) → step (2 * l.window) (number l n) 1 ≡ number l (n + 1)
+number-next l n = step-modulo (2 * l.window) n 1
 
-  pub number-next : (n : ℕ) → step (2 * w) (n % (2 * w)) 1 ≡ (n + 1) % (2 * w)
-  unfolding step
-  number-next n = mod-add-mod n (2 * w) 1
+pub number-same : (l : Limits) (n : ℕ) → step (2 * l.window) (number l n) 0 ≡ number l n
+number-same l n = step-modulo (2 * l.window) n 0 ∙ ap (number l) {x = n + 0} {y = n} (omega arith)
 
-  pub number-same : (n : ℕ) → step (2 * w) (n % (2 * w)) 0 ≡ n % (2 * w)
-  unfolding step
-  number-same n = let b = number-below n in ap (◌% (2 * w)) {x = n % (2 * w) + 0} {y = n % (2 * w)} (omega arith) ∙ mod-eq_of_lt b
-
-  pub no-distance : (n : ℕ) → distance (2 * w) (n % (2 * w)) (n % (2 * w)) ≡ 0
-  no-distance n = distance-on (2 * w) (n % (2 * w)) (n % (2 * w)) (omega arith) (number-below n) ∙ omega arith
+pub no-distance : (l : Limits) → 1 ≤ l.window → (n : ℕ) → distance (2 * l.window) (number l n) (number l n) ≡ 0
+no-distance l some n = distance-modulo (2 * l.window) n n (omega arith) (omega arith) ∙ omega arith

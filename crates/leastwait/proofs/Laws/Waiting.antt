@@ -1,5 +1,5 @@
 -- The ticks of the list: the wait's three parts pass, and a part of 0 is refused and changes nothing.
-use Prim.Native.Nat.{ℕ, ◌+◌, ◌-◌, ◌*◌, ◌≤◌, ◌<◌}
+use Prim.Native.Nat.{ℕ, ◌-◌, ◌*◌, ◌≤◌, ◌<◌}
 use mathlib.Core.Path.{◌≡◌, refl, ap, ap₂}
 use mathlib.Core.List.{List, [], ◌∷◌, ◌++◌}
 use native.Mathlib.Omega.{arith}
@@ -7,15 +7,18 @@ use lib.Dec.{leb}
 use borrow.Author.Tests.{leb-true, leb-false}
 use lib.ListN.{length}
 use Rattle.limits.specs.declared.Limits.{Limits}
+use Rattle.limits.specs.Cells.{row_at}
 use Rattle.limits.specs.Questions.{pick}
 use Rattle.limits.specs.Tables.{age}
 use Rattle.limits.specs.Events.{Event, misfit, tick, event}
 use Rattle.limits.proofs.Laws.Choice.{test}
+use Rattle.mat.specs.Window.{MatState}
 use Rattle.mat.specs.Rules as mat
 use Rattle.events.specs.Rules.{acted}
-use Rattle.events.specs.State.{LinkState, no_counts, added}
+use Rattle.events.specs.State.{LinkState}
 use Rattle.leastwait.specs.NoShorterWait.{answer_to_tick}
-use Rattle.leastwait.proofs.Laws.Goes.{reached, Does, leaves, does, refuses}
+use Rattle.leastwait.proofs.Laws.Goes.{reached, Does, leaves, does, refuses, same-counts}
+use Rattle.leastwait.proofs.Laws.Supply.{number}
 use Rattle.leastwait.proofs.Laws.Forms.{out, free, held, data_message, reply_message, link_of, last_timer, timers-fall, life-falls, free-ticked, held-ticked}
 
 -- the state after d ticks
@@ -30,63 +33,47 @@ on-tick P d f g = test (leb 1 d) (λ e. rw e (f (leb-true 1 d e))) (λ e. rw e (
 unless-passed : (a d : ℕ) → d ≡ 0 → a ≡ a - d
 unless-passed a d z = omega arith
 
-module _ (supply written rest : List ℕ) (sent acked recorded : ℕ) (fits : length written ≡ 16 * recorded) where
-  same-counts : added (record { sent = sent; acknowledged = acked; recorded = recorded }) no_counts ≡ record { sent = sent; acknowledged = acked; recorded = recorded }
-  same-counts =
-      λ i. record { sent = a i; acknowledged = b i; recorded = c i }
-    where
-      a : sent + 0 ≡ sent
-      a = omega arith
+-- two times, t and f, of a state fall by d
+pub passes : (supply written rest : List ℕ) (sent acked recorded : ℕ) → length written ≡ 16 * recorded
+    → (state : ℕ → ℕ → LinkState) (d t f : ℕ) → later d (state t f) ≡ state (t - d) (f - d)
+    → Does supply (reached (state t f) sent acked recorded written rest) (event 8 d) (answer_to_tick d) (reached (state (t - d) (f - d)) sent acked recorded written rest)
+unfolding pick
+passes supply written rest sent acked recorded fits state d t f falls =
+    on-tick (λ e n. Does supply (reached (state t f) sent acked recorded written rest) e n (reached (state (t - d) (f - d)) sent acked recorded written rest)) d
+    (λ h. leaves (does supply (state t f) sent acked recorded written rest fits (tick d) _ refl refl)
+    (ap₂ (λ u k. record { state = u; counts = k; buffer = written ++ rest }) falls (same-counts supply (state t f) sent acked recorded written rest fits (tick d))))
+    (λ z. leaves (refuses supply (state t f) sent acked recorded written rest fits misfit 9 refl refl)
+    (ap₂ (λ u v. reached (state u v) sent acked recorded written rest) (unless-passed t d z) (unless-passed f d z)))
 
-      b : acked + 0 ≡ acked
-      b = omega arith
+-- row 0 is outstanding, with t left on its resend timer
+abbrev pub first_out : Limits → List ℕ → ℕ → MatState
+first_out l supply t = out (number l 0) (number l 1) (row_at supply 0) (last_timer l.window t)
 
-      c : recorded + 0 ≡ recorded
-      c = omega arith
+-- its message is in the air, the pad holds it, its reply is in the air
+abbrev pub in_air : Limits → List ℕ → ℕ → ℕ → LinkState
+in_air l supply t life = link_of l (first_out l supply t) (free l.window (number l 0)) (data_message (number l 0) (row_at supply 0) life ∷ []) []
 
-  -- s' is s after d ticks, and s where d is 0
-  ticks : (d : ℕ) (s s' : LinkState) → later d s ≡ s' → (d ≡ 0 → s ≡ s')
-      → Does supply (reached s sent acked recorded written rest) (event 8 d) (answer_to_tick d) (reached s' sent acked recorded written rest)
-  unfolding pick
-  ticks d s s' passes none =
-      on-tick (λ e n. Does supply (reached s sent acked recorded written rest) e n (reached s' sent acked recorded written rest)) d
-      (λ h. leaves (does supply s sent acked recorded written rest fits (tick d) _ refl refl)
-      (ap₂ (λ u k. record { state = u; counts = k; buffer = written ++ rest }) passes same-counts))
-      (λ z. leaves (refuses supply s sent acked recorded written rest fits misfit 9 refl refl)
-      (ap₂ (λ u k. record { state = u; counts = k; buffer = written ++ rest }) (none z) same-counts))
+abbrev pub at_pad : Limits → List ℕ → ℕ → ℕ → LinkState
+at_pad l supply t timer = link_of l (first_out l supply t) (held l.window (number l 0) timer (row_at supply 0)) [] []
 
-  module _ (l : Limits) (o next : ℕ) (row : List ℕ) (d timer : ℕ) where
-    -- the mat while d ticks pass, and no less time on its timer
-    waiting : mat.ticked d (out o next row (last_timer l.window timer)) ≡ out o next row (last_timer l.window (timer - d))
-    unfolding mat.ticked
-    waiting = ap (out o next row) (timers-fall d l.window timer)
+abbrev pub in_reply : Limits → List ℕ → ℕ → ℕ → LinkState
+in_reply l supply t life = link_of l (first_out l supply t) (free l.window (number l 1)) [] (reply_message (number l 0) life ∷ [])
 
-    pub in-air : (p number life : ℕ) → d < life
-        → Does supply (reached (link_of l (out o next row (last_timer l.window timer)) (free l.window p) (data_message number row life ∷ []) []) sent acked recorded written rest)
-        (event 8 d) (answer_to_tick d)
-        (reached (link_of l (out o next row (last_timer l.window (timer - d))) (free l.window p) (data_message number row (life - d) ∷ []) []) sent acked recorded written rest)
-    unfolding age
-    in-air p number life h =
-        ticks d _ _
-        (λ i. link_of l (waiting i) (free-ticked d l.window p i) (life-falls d (record { number = number; row = row }) life h i) [])
-        (λ z. ap₂ (λ t f. link_of l (out o next row (last_timer l.window t)) (free l.window p) (data_message number row f ∷ []) []) (unless-passed timer d z) (unless-passed life d z))
+module _ (l : Limits) (supply : List ℕ) (d t : ℕ) where
+  mat-falls : mat.ticked d (first_out l supply t) ≡ first_out l supply (t - d)
+  unfolding mat.ticked
+  mat-falls = ap (out (number l 0) (number l 1) (row_at supply 0)) (timers-fall d l.window t)
 
-    pub at-pad : (p wait : ℕ)
-        → Does supply (reached (link_of l (out o next row (last_timer l.window timer)) (held l.window p wait row) [] []) sent acked recorded written rest)
-        (event 8 d) (answer_to_tick d)
-        (reached (link_of l (out o next row (last_timer l.window (timer - d))) (held l.window p (wait - d) row) [] []) sent acked recorded written rest)
-    unfolding age
-    at-pad p wait =
-        ticks d _ _
-        (λ i. link_of l (waiting i) (held-ticked d l.window p wait row i) [] [])
-        (λ z. ap₂ (λ t f. link_of l (out o next row (last_timer l.window t)) (held l.window p f row) [] []) (unless-passed timer d z) (unless-passed wait d z))
+  pub in-air-falls : (life : ℕ) → d < life → later d (in_air l supply t life) ≡ in_air l supply (t - d) (life - d)
+  unfolding age
+  in-air-falls life h =
+      λ i. link_of l (mat-falls i) (free-ticked d l.window (number l 0) i) (life-falls d (record { number = number l 0; row = row_at supply 0 }) life h i) []
 
-    pub in-reply : (p number life : ℕ) → d < life
-        → Does supply (reached (link_of l (out o next row (last_timer l.window timer)) (free l.window p) [] (reply_message number life ∷ [])) sent acked recorded written rest)
-        (event 8 d) (answer_to_tick d)
-        (reached (link_of l (out o next row (last_timer l.window (timer - d))) (free l.window p) [] (reply_message number (life - d) ∷ [])) sent acked recorded written rest)
-    unfolding age
-    in-reply p number life h =
-        ticks d _ _
-        (λ i. link_of l (waiting i) (free-ticked d l.window p i) [] (life-falls d (record { first = number; last = number }) life h i))
-        (λ z. ap₂ (λ t f. link_of l (out o next row (last_timer l.window t)) (free l.window p) [] (reply_message number f ∷ [])) (unless-passed timer d z) (unless-passed life d z))
+  pub at-pad-falls : (timer : ℕ) → later d (at_pad l supply t timer) ≡ at_pad l supply (t - d) (timer - d)
+  unfolding age
+  at-pad-falls timer = λ i. link_of l (mat-falls i) (held-ticked d l.window (number l 0) timer (row_at supply 0) i) [] []
+
+  pub in-reply-falls : (life : ℕ) → d < life → later d (in_reply l supply t life) ≡ in_reply l supply (t - d) (life - d)
+  unfolding age
+  in-reply-falls life h =
+      λ i. link_of l (mat-falls i) (free-ticked d l.window (number l 1) i) [] (life-falls d (record { first = number l 0; last = number l 0 }) life h i)
