@@ -60,7 +60,7 @@ static void radio(uint16_t kind, size_t p) {
 int main(void) {
     int i;
     for (i = 0; i < CELLS; i++) supply[i] = (uint16_t)(100 + i);
-    answered("open", matlink_open(&ends, 8, 2, 2, 2, 0), MATLINK_DONE);
+    answered("open", matlink_open(&ends, 8, 2, 2, 2, 7), MATLINK_DONE);
     event("send row 0", MATLINK_SEND, 0, MATLINK_DONE);
     event("send row 1", MATLINK_SEND, 0, MATLINK_DONE);
     event("row 0 is lost", MATLINK_LOSE_DATA, 0, MATLINK_DONE);

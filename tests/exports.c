@@ -1,4 +1,5 @@
-/* The header's functions from C: good and refused input of each, and every answer that they give.
+/* The header's functions on links from C: good and refused input of each, and every answer that they give. tests/exports_bytes.c
+ * has those on frames and pages.
  *
  *   exports          does the calls
  *   exports texts    the text of each number from 0 to 255 */
@@ -8,17 +9,11 @@
 
 static struct matlink now, before;
 static struct matlink_counts counts;
-static struct matlink_frame frame, read_back, kept;
 static uint16_t rows[2 * MATLINK_ROW_CELLS], record[2 * MATLINK_ROW_CELLS], record_before[2 * MATLINK_ROW_CELLS];
-static uint8_t answers[8], bytes[40], bytes_before[40], page_bytes[61 * MATLINK_LINE_BYTES];
-static uint16_t page_cells[61 * MATLINK_ROW_CELLS];
-static uint64_t written;
+static uint8_t answers[8];
 
 /* What is only read is lent as const. */
 static const uint16_t *const supply = rows;
-static const struct matlink_frame *const lent_frame = &frame;
-static const uint8_t *const lent_bytes = bytes;
-static const uint16_t *const lent_cells = page_cells;
 
 /* What a single event or a ride is lent, in cells. */
 static size_t supply_lent = MATLINK_ROW_CELLS, record_lent = 2 * MATLINK_ROW_CELLS;
@@ -99,6 +94,7 @@ static void openings(void) {
     open_link("resend wait 65536", 1, 2, 2, 2, 65536);
     step(8, 1);
     open_link("resend wait 0", 1, 2, 2, 2, 0);
+    open_link("resend wait 7", 1, 2, 2, 2, 7);
 }
 
 static void events(void) {
@@ -126,7 +122,7 @@ static void events(void) {
 
 /* A mark is on for anything but 0, and a call that is done leaves 0 or 1. */
 static void marks(void) {
-    open_link("for marks", 4, 2, 2, 2, 0);
+    open_link("for marks", 4, 2, 2, 2, 7);
     step(1, 0);
     step(1, 0);
     now.mat_mark[1] = 513;
@@ -154,7 +150,7 @@ static void fill_air(void) {
 
 /* Where several questions are answered no, the answer is that of the first one in the header's order. */
 static void mat_order(void) {
-    open_link("for the mat's order", 2, 2, 2, 2, 0);
+    open_link("for the mat's order", 2, 2, 2, 2, 7);
     supply_lent = 17;
     now.window = 0;
     step(9, 0);
@@ -195,7 +191,7 @@ static void mat_order(void) {
 }
 
 static void pad_order(void) {
-    open_link("for the pad's order", 2, 2, 2, 2, 0);
+    open_link("for the pad's order", 2, 2, 2, 2, 7);
     step(MATLINK_SEND, 0);
     fill_air();
     record_lent = 15;
@@ -250,127 +246,6 @@ static void rides(void) {
     ride("nine events, half a row, odd bytes", 2, 1, 4, list, 17);
 }
 
-static void write_bytes(const char *what, size_t buffer_count) {
-    uint8_t answer;
-    memset(bytes, 77, sizeof bytes);
-    memcpy(bytes_before, bytes, sizeof bytes);
-    written = 99;
-    answer = matlink_write_frame(lent_frame, bytes, buffer_count, &written);
-    printf("write, %s: %u, count %u, bytes %u %u %u %u %u %u, last %u, behind %u %u%s\n", what, answer, (unsigned)written, bytes[0],
-           bytes[1], bytes[2], bytes[3], bytes[4], bytes[5], bytes[35], bytes[36], bytes[39],
-           memcmp(bytes, bytes_before, sizeof bytes) == 0 ? ", all as it was" : "");
-}
-
-static void read_bytes(const char *what, size_t count) {
-    uint8_t answer;
-    memset(&read_back, 0xAA, sizeof read_back);
-    kept = read_back;
-    answer = matlink_read_frame(lent_bytes, count, &read_back);
-    printf("read, %s: %u, kind %u life %u window %u number %u last %u, cells %u %u%s\n", what, answer, read_back.kind, read_back.life,
-           read_back.window, read_back.number, read_back.last, read_back.cell[0], read_back.cell[15],
-           memcmp(&read_back, &kept, sizeof kept) == 0 ? ", all as it was" : "");
-}
-
-static void data_frames(void) {
-    int i;
-    frame.kind = MATLINK_DATA_FRAME;
-    frame.life = MATLINK_TIME_MOST;
-    frame.window = MATLINK_WINDOW_MOST;
-    frame.number = 2 * MATLINK_WINDOW_MOST - 1;
-    frame.last = 9;
-    for (i = 0; i < MATLINK_ROW_CELLS; i++) frame.cell[i] = (uint16_t)(MATLINK_CELL_MOST - i);
-    write_bytes("data", MATLINK_DATA_FRAME_BYTES);
-    read_bytes("data", MATLINK_DATA_FRAME_BYTES);
-    read_bytes("35 bytes", 35);
-    read_bytes("no byte", 0);
-    /* from here on one thing more is wrong each time, and it is asked before the others */
-    write_bytes("35 bytes of room", 35);
-    frame.cell[15] = MATLINK_CELL_TORN;
-    write_bytes("torn", MATLINK_DATA_FRAME_BYTES);
-    read_bytes("torn", MATLINK_DATA_FRAME_BYTES);
-    frame.cell[15] = MATLINK_CELL_MOST + 1;
-    write_bytes("cell 4096", 35);
-    frame.life = MATLINK_TIME_MOST + 1;
-    write_bytes("life 251", 35);
-    frame.number = 64;
-    write_bytes("number 64", 35);
-    frame.window = 0;
-    write_bytes("window 0", 35);
-}
-
-static void reply_frames(void) {
-    frame.kind = MATLINK_REPLY_FRAME;
-    frame.life = 1;
-    frame.window = 2;
-    frame.number = 3;
-    frame.last = 0;
-    write_bytes("reply", 40);
-    read_bytes("reply", MATLINK_REPLY_FRAME_BYTES);
-    write_bytes("4 bytes of room", 4);
-    frame.last = 1;
-    write_bytes("span of 3", 4);
-    frame.life = 257;
-    write_bytes("life 257", 4);
-    frame.last = 4;
-    write_bytes("last 4", 4);
-    frame.window = 258;
-    write_bytes("window 258", 4);
-    frame.kind = 3;
-    write_bytes("kind 3", 4);
-    frame.kind = 0;
-    write_bytes("kind 0", 4);
-}
-
-/* The bytes 0 to 4 of a frame, and behind them none that makes a legal cell: one thing less is wrong each time. */
-static void read_order(void) {
-    static const uint8_t tries[][5] = {{3, 0, 0, 64, 66}, {2, 0, 0, 64, 66}, {2, 0, 32, 64, 66}, {2, 0, 32, 63, 61},
-                                       {2, 1, 32, 63, 61}, {2, 1, 32, 63, 30}};
-    size_t i;
-    memset(bytes, 254, sizeof bytes);
-    for (i = 0; i < sizeof tries / sizeof tries[0]; i++) {
-        memcpy(bytes, tries[i], 5);
-        read_bytes("of 6 bytes", 6);
-        read_bytes("reply", MATLINK_REPLY_FRAME_BYTES);
-        if (bytes[0] == 2) bytes[0] = 1;
-        read_bytes("data", MATLINK_DATA_FRAME_BYTES);
-    }
-}
-
-static void page(const char *what, size_t cells, uint64_t number, size_t buffer_count) {
-    uint8_t answer;
-    size_t i, behind = 0;
-    memset(page_bytes, '.', sizeof page_bytes);
-    written = 99;
-    answer = matlink_page(lent_cells, cells, number, page_bytes, buffer_count, &written);
-    for (i = (size_t)written; i < sizeof page_bytes; i++) behind += page_bytes[i] == '.';
-    printf("page, %s: %u, count %u, as it was behind %u\n", what, answer, (unsigned)written, (unsigned)behind);
-    /* the first line and the last one */
-    if (answer == MATLINK_DONE) {
-        fwrite(page_bytes, 1, MATLINK_LINE_BYTES, stdout);
-        fwrite(page_bytes + written - MATLINK_LINE_BYTES, 1, MATLINK_LINE_BYTES, stdout);
-    }
-}
-
-static void pages(void) {
-    const size_t whole = MATLINK_PAGE_ROWS * MATLINK_LINE_BYTES, all = sizeof page_cells / sizeof page_cells[0];
-    size_t i;
-    for (i = 0; i < all; i++) page_cells[i] = (uint16_t)(i * 273 % (MATLINK_CELL_MOST + 1));
-    page("of 60 rows", all, 0, whole);
-    page("of 1 row", all, 1, MATLINK_LINE_BYTES);
-    page("more room", all, 1, whole);
-    page_cells[all - 1] = MATLINK_CELL_TORN;
-    page("torn", all, 1, MATLINK_LINE_BYTES);
-    /* from here on one thing more is wrong each time, and it is asked before the others */
-    page("22 bytes of room", all, 1, MATLINK_LINE_BYTES - 1);
-    page_cells[all - 1] = MATLINK_CELL_MOST + 1;
-    page("cell 4096", all, 1, MATLINK_LINE_BYTES - 1);
-    page("the page before it", all, 0, whole);
-    page("page 2", all, 2, 0);
-    page("60 times it is 44 modulo 2 to the 64", all, UINT64_MAX / 60 + 1, whole);
-    page("no row", 0, 0, whole);
-    page("part of a row", all - 1, 2, 0);
-}
-
 static void texts(void) {
     unsigned n;
     for (n = 0; n < 256; n++) printf("%u %s\n", n, matlink_answer_text((uint8_t)n));
@@ -383,7 +258,8 @@ int main(int words, char **word) {
         return 0;
     }
     for (i = 0; i < 32; i++) rows[i] = (uint16_t)(5 + i / 16);
-    printf("a link has %u bytes, counts %u, a frame %u\n", (unsigned)sizeof now, (unsigned)sizeof counts, (unsigned)sizeof frame);
+    printf("a link has %u bytes, counts %u, a frame %u\n", (unsigned)sizeof now, (unsigned)sizeof counts,
+           (unsigned)sizeof(struct matlink_frame));
     openings();
     events();
     marks();
@@ -391,9 +267,5 @@ int main(int words, char **word) {
     rides();
     mat_order();
     pad_order();
-    data_frames();
-    reply_frames();
-    read_order();
-    pages();
     return 0;
 }

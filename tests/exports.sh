@@ -1,5 +1,5 @@
 #!/usr/bin/env bash
-# The static library from C: the header, the texts, the example and a test of every function are compiled in three standards
+# The static library from C: the header, the texts, the example and the tests of every function are compiled in three standards
 # without a warning, linked and run. The header's answers are those of crates/limits, and their texts those of docs/RIDES.md.
 set -euo pipefail
 here=target/exports
@@ -46,12 +46,14 @@ END
 for standard in c99 c11 c++11; do
     # the texts include the header and nothing else, so it is whole in itself
     compile "$standard" c/matlink_text.c
-    for file in c/example.c tests/exports.c; do
+    for file in c/example.c tests/exports.c tests/exports_bytes.c; do
         compile "$standard" "$file"
         build "$standard" "$(basename "$file" .c)"
     done
     timeout 10 "$here/example" | diff "$here/example.expected" - || { echo "$standard: the example printed something else"; exit 1; }
-    timeout 10 "$here/exports" | diff tests/exports.expected - || { echo "$standard: a call did something else"; exit 1; }
+    for program in exports exports_bytes; do
+        timeout 10 "$here/$program" | diff "tests/$program.expected" - || { echo "$standard: a call did something else"; exit 1; }
+    done
 done
 
 # The example ends with 1 where an answer is not the one that it expects.

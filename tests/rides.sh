@@ -139,15 +139,16 @@ asks 2 "$here/none: No such file or directory (os error 2)" "$here/ride" --trial
 printf '#!/bin/sh\ncat >/dev/null\n' >"$here/silent" && chmod +x "$here/silent"
 asks 2 "$here/silent printed something else than answers:" "$here/ride" --trial "$here/silent" rides/quiet.ride
 
-# The first build says what it does, and why it failed. Commands that build nothing stand in for rt and rustc.
-fresh=$PWD/$here/fresh
-rm -rf "$fresh"
+# The first build says what it does, and why it failed. Commands that build nothing stand in for rt and rustc. It is tried outside
+# the repository, in which `rt ci` allows one crates.txt.
+fresh=$(mktemp -d)
+trap 'rm -rf "$fresh"' EXIT
 mkdir -p "$fresh/bin" "$fresh/crates/exports_c" "$fresh/c"
 cp -r rides "$fresh/rides"
 cp c/library "$fresh/c" && touch "$fresh/crates.txt"
 says='rides/ride: builds the library and checks its proofs, which takes some minutes the first time (output: target/rides/log)'
 printf '#!/bin/sh\necho refused; exit 1\n' >"$fresh/bin/rt"
-printf '#!/bin/sh\ncp ../ride target/rides/ride\n' >"$fresh/bin/rustc"
+printf '#!/bin/sh\ncp "%s" target/rides/ride\n' "$PWD/$here/ride" >"$fresh/bin/rustc"
 chmod +x "$fresh/bin/rt" "$fresh/bin/rustc"
 asks 2 "$(lines "$says" refused 'rides/ride: failed: c/library')" env PATH="$fresh/bin:$PATH" "$fresh/rides/ride" rides/quiet.ride
 printf '#!/bin/sh\nmkdir -p out && echo >out/libexports_c.a\n' >"$fresh/bin/rt"
@@ -188,8 +189,8 @@ for words in --brief --bytes '--trial target/bin/trial' "--chart $here/chart.svg
 done
 
 # The bytes of the paper's example
-printf '%srow 5\nsend\ndata 0 arrives\nreply\nreply 0 arrives\n' "$limits" >"$here/x.ride"
-{ printf '\001\002\002\002\000\000\001'; printf '\005\000%.0s' {1..16}; printf '\001\000\003\000\004\000\005\000'; } >"$here/expected"
+printf '%sresend wait 7\nrow 5\nsend\ndata 0 arrives\nreply\nreply 0 arrives\n' "$limits" >"$here/x.ride"
+{ printf '\001\002\002\002\007\000\001'; printf '\005\000%.0s' {1..16}; printf '\001\000\003\000\004\000\005\000'; } >"$here/expected"
 "$here/ride" --bytes "$here/x.ride" | cmp - "$here/expected" || fails 'the example: other bytes'
 
 # A torn cell is 65535

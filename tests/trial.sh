@@ -14,11 +14,16 @@ holds() {
 }
 
 # w, data life, reply life, reply wait, resend wait (low byte, high byte)
-limits='\001\002\002\002\000\000'
+limits='\001\002\002\002\007\000'
 row=$(printf '\\005\\000%.0s' {1..16})
 events='\001\000\003\000\004\000\005\000'
 
 printf "$limits\001$row$events" | holds 'the example' "$(printf '%s\n' '1 0 0' '3 0 0' '4 0 0' '5 0 0' 'sent 1 acknowledged 1 recorded 1')"
+# docs/RULES.md shows this input, which is the trial's stdin, and what it prints.
+bytes() { od -An -v -tu1 -w1000 | tr -s ' ' | sed 's/^ //'; }
+sed -n "s/.*The bytes \([0-9 ]*\), then 5 0 sixteen times, then \([0-9 ]*\) print:$/\1 $(printf '5 0 %.0s' {1..16})\2/p" docs/RULES.md |
+    cmp - <(bytes <crates/trial/stdin) || { echo 'docs/RULES.md: another input than crates/trial/stdin'; failed=1; }
+sed -n '/sixteen times, then/,/^The trial/s/^    //p' docs/RULES.md | cmp - crates/trial/stdout || { echo 'docs/RULES.md: another output'; failed=1; }
 printf "$limits\001$row" | holds 'no events' 'sent 0 acknowledged 0 recorded 0'
 printf "$limits\000\001\000" | holds 'no rows' "$(printf '%s\n' '1 0 11' 'sent 0 acknowledged 0 recorded 0')"
 printf "$limits\001$row\377\377\010\000" | holds 'refused events' "$(printf '%s\n' '255 255 8' '8 0 9' 'sent 0 acknowledged 0 recorded 0')"

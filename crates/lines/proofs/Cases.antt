@@ -17,18 +17,18 @@ abbrev events : List ℕ
 events = 1 ∷ 0 ∷ 3 ∷ 0 ∷ 4 ∷ 0 ∷ 5 ∷ 0 ∷ []
 
 abbrev input : List ℕ
-input = (1 ∷ 2 ∷ 2 ∷ 2 ∷ 0 ∷ 0 ∷ 1 ∷ []) ++ (fives ++ (fives ++ events))
+input = (1 ∷ 2 ∷ 2 ∷ 2 ∷ 7 ∷ 0 ∷ 1 ∷ []) ++ (fives ++ (fives ++ events))
 
 pub example-readable : readable input ≡ true
 unfolding readable
 example-readable = refl
 
 -- a byte of the row is missing
-pub example-short : readable ((1 ∷ 2 ∷ 2 ∷ 2 ∷ 0 ∷ 0 ∷ 1 ∷ []) ++ replicate 31 0) ≡ false
+pub example-short : readable ((1 ∷ 2 ∷ 2 ∷ 2 ∷ 7 ∷ 0 ∷ 1 ∷ []) ++ replicate 31 0) ≡ false
 unfolding readable
 example-short = refl
 
-pub example-limits : limits_of input ≡ record { window = 1; datalife = 2; replylife = 2; replywait = 2; resendwait = 0 }
+pub example-limits : limits_of input ≡ record { window = 1; datalife = 2; replylife = 2; replywait = 2; resendwait = 7 }
 unfolding limits_of
 example-limits = refl
 

@@ -20,9 +20,9 @@ use Rattle.report.specs.Report.{ride_text, text_of}
 abbrev fives : List ℕ
 fives = 5 ∷ 0 ∷ 5 ∷ 0 ∷ 5 ∷ 0 ∷ 5 ∷ 0 ∷ 5 ∷ 0 ∷ 5 ∷ 0 ∷ 5 ∷ 0 ∷ 5 ∷ 0 ∷ []
 
--- w as given, times 2, 2, 2, wait 0, one row, and `events`
+-- w as given, times 2, 2, 2, wait 7, one row, and `events`
 abbrev input : ℕ → List ℕ → List ℕ
-input w events = (w ∷ 2 ∷ 2 ∷ 2 ∷ 0 ∷ 0 ∷ 1 ∷ []) ++ (fives ++ (fives ++ events))
+input w events = (w ∷ 2 ∷ 2 ∷ 2 ∷ 7 ∷ 0 ∷ 1 ∷ []) ++ (fives ++ (fives ++ events))
 
 abbrev four : List ℕ
 four = 1 ∷ 0 ∷ 3 ∷ 0 ∷ 4 ∷ 0 ∷ 5 ∷ 0 ∷ []
@@ -45,9 +45,9 @@ unfolding text_of ride_text readable limits_of pick window_fits
 refused-1 = refl
 
 pub refused-5 : text_of (input 1 (1 ∷ [])) ≡ refused_line 5
-unfolding text_of ride_text readable limits_of event_bytes pick window_fits times_fit wait_fits
+unfolding text_of ride_text readable limits_of event_bytes pick window_fits times_fit least_wait wait_fits
 refused-5 = refl
 
-pub refused-29 : text_of (1 ∷ 2 ∷ 2 ∷ 2 ∷ 0 ∷ 0 ∷ []) ≡ refused_line 29
+pub refused-29 : text_of (1 ∷ 2 ∷ 2 ∷ 2 ∷ 7 ∷ 0 ∷ []) ≡ refused_line 29
 unfolding text_of readable pick
 refused-29 = refl
