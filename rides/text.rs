@@ -20,7 +20,7 @@ const HEADER: usize = 7;
 const LIMITS: [(&str, u16); 5] =
     [("window N", 255), ("data life N", 255), ("reply life N", 255), ("reply wait N", 255), ("resend wait N", 65_535)];
 
-/// The one limit that may be left out; the trial reads a 0 as the sum of the three times plus 1.
+/// The one limit that may be left out, which is a 0: the trial takes the shortest wait for it.
 const RESEND_WAIT: usize = 4;
 
 /// The lines that are events, with their kinds. An event without a number has argument 0.

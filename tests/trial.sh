@@ -34,6 +34,11 @@ printf '\001\002\373\002\000\000\000' | holds 'a reply life of 251' 'refused 2'
 printf '\001\002\002\002\003\000\000' | holds 'a resend wait of the sum less 3' 'refused 3'
 printf '\001\002\002\002\004\000\000' | holds 'a resend wait of the sum less 2' 'sent 0 acknowledged 0 recorded 0'
 printf '\001\002\002\002\351\003\000' | holds 'a resend wait of 1001' 'refused 3'
+# A resend after 3 ticks and one after 4: with 0, as with 4, the second is done; with 5 both come too early.
+for wait in '0 0' '4 0' '5 16'; do
+    printf "\001\002\002\002\00${wait% *}\000\001$row"'\001\000\010\003\002\000\010\001\002\000' |
+        holds "a resend wait of ${wait% *}" "$(printf '%s\n' '1 0 0' '8 3 0' '2 0 16' '8 1 0' "2 0 ${wait#* }" 'sent 1 acknowledged 0 recorded 0')"
+done
 printf "$limits\001$row$events\001" | holds 'an odd count of event bytes' 'refused 5'
 printf '' | holds 'empty input' 'refused 29'
 printf "$limits" | holds '6 bytes' 'refused 29'

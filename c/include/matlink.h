@@ -219,8 +219,8 @@ static inline void matlink_counted(struct matlink_counts *counts, const size_t *
 /* Opens a link.
  * Asked in this order: window (1), the three times (2), resend wait (3). A limit of more than 16 bits is refused as 65535 is.
  * What stood in the link before is not read.
- * Done: every number of the link is written. It has these limits, with the sum of the three times plus 1 for a resend wait of
- * 0, and all other numbers are 0.
+ * Done: every number of the link is written. It has these limits, but for a resend wait of 0 the shortest one, the sum of the
+ * three times less 2; all other numbers are 0.
  * Refused: every number of the link is 0, and matlink_step and matlink_run answer 4 to such a link.
  * Stack: 208 bytes, the proved function 96. */
 static inline uint8_t matlink_open(struct matlink *link, uint32_t window, uint32_t data_life, uint32_t reply_life,

@@ -1,17 +1,18 @@
 //! What is put to the proved library: random lists, all short lists, bad limits, numbers that are too wide.
 
 use crate::built::Counts;
-use crate::compare::{different, rows, Call, Case};
-use crate::differ::{counts, difference, ride_difference};
+use crate::compare::{different, Call, Case};
+use crate::differ::{counts, difference, ride_difference, Difference};
 use crate::draw::{random_case, random_limits};
-use crate::library::{Lent, Library};
+use crate::library::{asked, Lent, Library};
 use crate::limits::{number, Limits, CELLS};
 use crate::matlink::Matlink;
-use crate::met::{torn, Accepted, ENOUGH};
+use crate::members::members;
+use crate::met::Lists;
 use crate::report::{Outcome, Replay};
 use crate::short::{all_short, Compared, EVENTS};
 use crate::shrink::{flat, shortest};
-use crate::threads::{items, seeds, sums, Amount};
+use crate::threads::{items, seeds, Amount};
 
 /// A list through calls, and where that shows nothing in one ride.
 fn list_difference(library: &dyn Library, case: &Case) -> Option<String> {
@@ -22,52 +23,46 @@ fn list_difference(library: &dyn Library, case: &Case) -> Option<String> {
     difference(library, case).or_else(whole_ride)
 }
 
-/// A difference, and the case cut to the shortest list that shows one. The answer to the opening stays.
-pub(crate) fn cut(library: &dyn Library, case: Case) -> (String, Case) {
+/// What differs, and the case cut to the shortest list that shows a difference. Where the list by itself shows none, both are
+/// given as they were found. The answer to the opening stays.
+pub(crate) fn cut(library: &dyn Library, case: Case, found: String) -> (String, Case) {
     let opening = number(&case.limits.accept());
     let fails = |case: &Case| number(&case.limits.accept()) == opening && list_difference(library, case).is_some();
     let cut = if fails(&case) { shortest(case, &fails) } else { case };
-    (list_difference(library, &cut).unwrap_or_default(), cut)
+    (list_difference(library, &cut).unwrap_or(found), cut)
 }
 
-/// Lists, calls and events that were compared, the rows sent in them, and how many of these rows have a torn cell.
-type Lists = [u64; 5];
+/// A seeded list through its calls and in one ride: how many rows were sent in it, or what differs, with the case cut.
+fn random_list(library: &dyn Library, seed: u64, case: &Case) -> Result<usize, (String, Case)> {
+    let failed = |found| cut(library, case.clone(), found);
+    let Counts { sent, .. } = counts(library, case).map_err(failed)?;
+    let list: Vec<u8> = flat(&case.calls).into_iter().flat_map(|(kind, argument)| [kind, argument]).collect();
+    // the odd count and the short buffer come now and then
+    let (odd, short) = (usize::from(seed % 50 == 3), usize::from(seed % 50 == 4));
+    let bytes = &list[..list.len() - odd];
+    let answers = (list.len() / 2).saturating_sub(short) + (seed % 3) as usize * (1 - short);
+    ride_difference(library, case, bytes, answers).map_or(Ok(sent), |found| Err(failed(found)))
+}
 
 /// Seeded lists cut into runs and calls for one event, and each in one ride.
 pub fn random_lists(library: &dyn Library, replay: &Replay, amount: Amount) -> Outcome {
-    let counted = seeds(amount, |seed, counted: &mut Lists| {
+    let met = seeds(amount, |seed, met: &mut Lists| {
         let case = random_case(seed);
-        let list: Vec<u8> = flat(&case.calls).into_iter().flat_map(|(kind, argument)| [kind, argument]).collect();
-        // the odd count and the short buffer come now and then
-        let (odd, short) = (usize::from(seed % 50 == 3), usize::from(seed % 50 == 4));
-        let bytes = &list[..list.len() - odd];
-        let answers = (list.len() / 2).saturating_sub(short) + (seed % 3) as usize * (1 - short);
-        let (events, calls) = (list.len() as u64 / 2, case.calls.len() as u64);
-        let Ok(Counts { sent, .. }) = counts(library, &case) else {
-            let (found, case) = cut(library, case);
-            return Err(replay.failed_ride("lists", seed, &found, &case));
-        };
-        if let Some(found) = ride_difference(library, &case, bytes, answers) {
-            let (shorter, case) = cut(library, case);
-            let found = if shorter.is_empty() { found } else { shorter };
-            return Err(replay.failed_ride("lists", seed, &found, &case));
-        }
-        let with_torn = rows(&case.supply)[..sent].iter().filter(|row| torn(*row)).count();
-        let more = [1, calls, events, sent as u64, with_torn as u64];
-        *counted = std::array::from_fn(|at| counted[at] + more[at]);
-        Ok(events)
+        let failed = |(found, case): (String, Case)| replay.failed_ride("lists", seed, &found, &case);
+        let before = met.events;
+        met.add(&case, random_list(library, seed, &case).map_err(failed)?);
+        Ok(met.events - before)
     })?;
-    let [lists, calls, events, all, torn] = sums(counted);
-    let sent = Accepted { all, torn };
-    sent.all_there("lists", events >= ENOUGH)?;
-    Ok(format!("{lists} random lists in {calls} calls and {lists} rides, {events} events; rows sent {sent}"))
+    let met = met.into_iter().fold(Lists::default(), Lists::and);
+    met.all_there()?;
+    Ok(met.to_string())
 }
 
 /// All short lists, for windows and times 1 and 2.
 pub fn short_lists(library: &dyn Library, replay: &Replay, length: usize) -> Outcome {
     let counted = items(&all_short(length), |short, total: &mut Compared| {
         let compared = short.compare(library).map_err(|case| {
-            let (found, case) = cut(library, case);
+            let (found, case) = cut(library, case, String::new());
             replay.failed_ride("short-lists", 0, &found, &case)
         })?;
         *total = total.and(compared);
@@ -78,11 +73,26 @@ pub fn short_lists(library: &dyn Library, replay: &Replay, length: usize) -> Out
     Ok(format!("all {lists} lists of {length} of {events} events, by {calls} calls: lists to the same state go on together"))
 }
 
-/// Waits at both edges of question 3, at what a 0 stands for, and beyond. Question 2 need not let the times pass.
-fn waits(times: [u16; 3]) -> [u16; 10] {
-    let sum = times.into_iter().fold(0, u16::saturating_add);
+/// Limits with a resend wait of 0, at both edges of question 3 and beyond. Question 2 need not let the times pass.
+fn waits(limits: Limits) -> [Limits; 10] {
+    let sum = limits.sum();
     let [a, b, c] = [3, 2, 1].map(|less| sum.saturating_sub(less));
-    [0, 1, a, b, c, sum, sum.saturating_add(1), 1000, 1001, 65_535]
+    let all = [0, 1, a, b, c, sum, sum.saturating_add(1), 1000, 1001, 65_535];
+    all.map(|resend_wait| Limits { resend_wait, ..limits })
+}
+
+/// Where the wait is 0: how the library's link differs from the one that it opens with the least wait.
+fn zero_difference(library: &dyn Library, limits: Limits) -> Difference {
+    if limits.resend_wait > 0 {
+        return None;
+    }
+    let [(zero, link), (least, expected)] = [limits, limits.with_least_wait()].map(|limits| {
+        let mut link = Matlink::filled(5);
+        (library.open(&mut link, asked(limits)), link)
+    });
+    let numbers = (zero != least).then(|| format!("library answers {zero} and {least}"));
+    let found = numbers.or_else(|| members(&link, &expected))?;
+    Some(format!("opening with {limits:?} is not that with the least wait\n{found}"))
 }
 
 /// Limits at and beyond every edge, each with an opening, a call for one event, a run and a ride.
@@ -91,7 +101,7 @@ pub fn openings(library: &dyn Library, replay: &Replay, amount: Amount) -> Outco
     for window in (0..=34).chain([255, 256, 65_536, usize::MAX]) {
         for time in [0, 1, 250, 251, 65_535] {
             for times in [[time, 1, 1], [1, time, 250], [250, 250, time]] {
-                limits.extend(waits(times).map(|resend_wait| limits_of(window, times, resend_wait)));
+                limits.extend(waits(limits_of(window, times, 0)));
             }
         }
     }
@@ -105,17 +115,20 @@ pub fn openings(library: &dyn Library, replay: &Replay, amount: Amount) -> Outco
         }
         limits.push(drawn);
     }
-    let (count, mut opened) = (limits.len(), 0);
+    let (count, mut opened, mut zeros) = (limits.len(), 0, 0);
     for limits in limits {
         let calls = vec![Call::One { kind: 1, argument: 0 }, Call::Run { events: vec![3, 0, 4, 0], answers: 2 }];
         let case = Case { limits, supply: vec![7; CELLS], record: vec![8; CELLS], calls };
-        let found = difference(library, &case).or_else(|| ride_difference(library, &case, &[1, 0, 3, 0], 2));
+        let found = zero_difference(library, limits)
+            .or_else(|| difference(library, &case))
+            .or_else(|| ride_difference(library, &case, &[1, 0, 3, 0], 2));
         if let Some(found) = found {
             return Err(replay.failed_ride("openings", amount.seed, &found, &case));
         }
         opened += usize::from(limits.accept().is_ok());
+        zeros += usize::from(limits.resend_wait == 0);
     }
-    Ok(format!("{count} openings, {opened} of them done"))
+    Ok(format!("{count} openings, {opened} of them done; {zeros} with resend wait 0, each as with the least wait"))
 }
 
 pub(crate) fn limits_of(window: usize, times: [u16; 3], resend_wait: u16) -> Limits {

@@ -6,19 +6,20 @@ use crate::limits::{Limits, CELLS};
 use crate::random::Random;
 use crate::unbounded::Ends;
 
-/// A resend wait that question 3 lets pass. Mistakes show with the least one and with the three above it, the last of which is
-/// what a 0 stands for, so these come more often.
+/// A resend wait other than 0 that question 3 lets pass. Mistakes show with the least one and with the three above it, so these
+/// come more often.
 pub fn random_wait(random: &mut Random, limits: &Limits) -> u16 {
     let least = limits.least_wait();
     match random.below(8) {
-        0..=2 => least,
-        3 | 4 => least + 1 + random.below(3) as u16,
+        0 | 1 => least,
+        2..=4 => least + 1 + random.below(3) as u16,
         5 => 1000,
         _ => least + random.below(usize::from(1001 - least)) as u16,
     }
 }
 
-/// Small windows and short times reach the ring's end and the timers' ends sooner, so they come more often.
+/// Small windows and short times reach the ring's end and the timers' ends sooner, so they come more often. One resend wait in
+/// four is left at 0, as callers do.
 pub fn random_limits(random: &mut Random) -> Limits {
     let window = 1 + random.one_of(&[1, 2, 4, 32]);
     let window = 1 + random.below(window - 1);

@@ -130,39 +130,33 @@ pub struct Limits {
     pub reply_life: u16,
     /// How long after its arrival a row may be acknowledged (mrt).
     pub reply_wait: u16,
-    /// The retransmission timeout (tp); 0 asks for `wait_of_0`.
+    /// The retransmission timeout (tp); 0 asks for `least_wait`.
     pub resend_wait: u16,
 }
 
 impl Limits {
-    /// Questions 1 to 3, and the limits with a resend wait of 0 replaced by the number it stands for.
-    pub fn accept(mut self) -> Result<Limits, Refusal> {
+    /// Questions 1 to 3, and the limits with a resend wait of 0 replaced by the least one, which it stands for.
+    pub fn accept(self) -> Result<Limits, Refusal> {
         let times = [self.data_life, self.reply_life, self.reply_wait];
         ask((1..=LARGEST_WINDOW).contains(&self.window), Refusal::Window)?;
         ask(times.iter().all(|time| (1..=250).contains(time)), Refusal::Times)?;
         let range = self.least_wait()..=1000;
         ask(self.resend_wait == 0 || range.contains(&self.resend_wait), Refusal::ResendWait)?;
-        if self.resend_wait == 0 {
-            self.resend_wait = self.wait_of_0();
-        }
-        Ok(self)
+        Ok(if self.resend_wait == 0 { self.with_least_wait() } else { self })
     }
 
-    /// The three times' sum, where question 2 lets them pass.
+    /// The three times' sum. It stops at the largest number, as question 2 need not let the times pass.
     pub fn sum(&self) -> u16 {
-        self.data_life + self.reply_life + self.reply_wait
+        self.data_life.saturating_add(self.reply_life).saturating_add(self.reply_wait)
     }
 
-    /// The least resend wait: the sum less 2. A row is in the air for at most data life - 1 ticks, then held with a reply timer
-    /// above 0 for at most reply wait - 1, and then its reply is in the air for at most reply life - 1. After one tick more
-    /// nothing is left of a sending. `short_wait` shows that a shorter wait will not do.
+    /// The least resend wait, and what 0 stands for: the sum less 2. A row is in the air for at most data life - 1 ticks, then
+    /// held with a reply timer above 0 for at most reply wait - 1, and then its reply is in the air for at most reply life - 1.
+    /// After one tick more nothing is left of a sending. `short_wait` shows that a shorter wait will not do.
+    ///
+    /// It is at least 1 for times that question 2 lets pass, so no opened link has a wait of 0.
     pub fn least_wait(&self) -> u16 {
-        self.sum() - 2
-    }
-
-    /// What a resend wait of 0 stands for: the sum plus 1.
-    pub fn wait_of_0(&self) -> u16 {
-        self.sum() + 1
+        self.sum().saturating_sub(2)
     }
 
     /// The same with the least resend wait.

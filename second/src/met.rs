@@ -1,8 +1,10 @@
 //! What a comparison met, above all on made-up links, so that one that leaves something out is found out.
 
 use crate::built::Link;
+use crate::compare::{rows, Case};
 use crate::limits::TORN_CELL;
 use crate::matlink::{without_free, Matlink};
+use crate::shrink::flat;
 use std::fmt;
 
 /// From so many calls or events on, everything that can be met must have been.
@@ -35,11 +37,12 @@ fn wait_below_sum(link: &Matlink, less: u16) -> bool {
     good && link.resend_wait > 0 && link.resend_wait + less == times.iter().sum::<u16>()
 }
 
-const EDGES: [Edge; 9] = [
+const EDGES: [Edge; 10] = [
     ("window 0", |link| link.window == 0),
     ("window 33", |link| link.window == 33),
     ("reply wait 0", |link| link.reply_wait == 0),
     ("reply wait 251", |link| link.reply_wait == 251),
+    ("resend wait 0", |link| link.resend_wait == 0),
     ("resend wait 1000", |link| link.resend_wait == 1000),
     ("resend wait 1001", |link| link.resend_wait == 1001),
     ("a resend timer above 751", |link| link.window > 0 && link.mat_timer[0] > 751),
@@ -77,6 +80,11 @@ impl Accepted {
         self.torn += u64::from(torn(cells));
     }
 
+    /// Both together.
+    pub fn and(self, other: Accepted) -> Accepted {
+        Accepted { all: self.all + other.all, torn: self.torn + other.torn }
+    }
+
     /// Whether a torn cell was accepted, where there were enough to be met.
     pub fn all_there(&self, what: &str, enough: bool) -> Result<(), String> {
         if self.torn == 0 && enough {
@@ -89,6 +97,58 @@ impl Accepted {
 impl fmt::Display for Accepted {
     fn fmt(&self, out: &mut fmt::Formatter) -> fmt::Result {
         write!(out, "{}, {} of these with a torn cell", self.all, self.torn)
+    }
+}
+
+/// Random lists that were compared.
+#[derive(Clone, Copy, Debug, Default, PartialEq, Eq)]
+pub struct Lists {
+    lists: u64,
+    calls: u64,
+    /// The events in them.
+    pub events: u64,
+    /// The rows sent in them.
+    sent: Accepted,
+    /// Those with a resend wait of 0.
+    wait_of_0: u64,
+}
+
+impl Lists {
+    /// One more, in which so many rows were sent.
+    pub fn add(&mut self, case: &Case, sent: usize) {
+        self.lists += 1;
+        self.calls += case.calls.len() as u64;
+        self.events += flat(&case.calls).len() as u64;
+        rows(&case.supply)[..sent].iter().for_each(|row| self.sent.add(row));
+        self.wait_of_0 += u64::from(case.limits.resend_wait == 0);
+    }
+
+    /// Both together.
+    pub fn and(self, other: Lists) -> Lists {
+        Lists {
+            lists: self.lists + other.lists,
+            calls: self.calls + other.calls,
+            events: self.events + other.events,
+            sent: self.sent.and(other.sent),
+            wait_of_0: self.wait_of_0 + other.wait_of_0,
+        }
+    }
+
+    /// Whether a resend wait was 0 and a torn cell was sent, where there were events enough.
+    pub fn all_there(&self) -> Result<(), String> {
+        let enough = self.events >= ENOUGH;
+        if self.wait_of_0 == 0 && enough {
+            return Err("lists: none with resend wait 0".into());
+        }
+        self.sent.all_there("lists", enough)
+    }
+}
+
+impl fmt::Display for Lists {
+    fn fmt(&self, out: &mut fmt::Formatter) -> fmt::Result {
+        let Lists { lists, calls, events, sent, wait_of_0 } = self;
+        write!(out, "{lists} random lists in {calls} calls and {lists} rides, {events} events; rows sent {sent}; ")?;
+        write!(out, "{wait_of_0} lists with resend wait 0")
     }
 }
 

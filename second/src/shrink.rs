@@ -129,10 +129,10 @@ fn smaller_limits(case: &mut Case, fails: &dyn Fn(&Case) -> bool) {
         attempt(case, fails, |case| case.limits.data_life = (case.limits.data_life / 2).max(1));
         attempt(case, fails, |case| case.limits.reply_life = (case.limits.reply_life / 2).max(1));
         attempt(case, fails, |case| case.limits.reply_wait = (case.limits.reply_wait / 2).max(1));
-        // a 0 stands for more than the least wait, so it is not always enough
-        if !attempt(case, fails, |case| case.limits.resend_wait = 0) && case.limits.resend_wait > 0 {
-            attempt(case, fails, |case| case.limits = case.limits.with_least_wait());
-        }
+        // 0 is the least wait; a case that needs a longer one gets the shortest that will do
+        attempt(case, fails, |case| case.limits.resend_wait = 0);
+        attempt(case, fails, |case| case.limits.resend_wait /= 2);
+        attempt(case, fails, |case| case.limits.resend_wait = case.limits.resend_wait.saturating_sub(1));
     }
 }
 

@@ -129,12 +129,12 @@ fn shown_input(input: &[u8]) -> String {
 /// The events of the short lists for the trial: a process for each list leaves room for few.
 const EVENTS: [(u8, u8); 11] = [(1, 0), (2, 0), (3, 0), (3, 1), (4, 0), (5, 0), (6, 0), (7, 0), (8, 1), (8, 4), (8, 255)];
 
-/// All lists of so many of these events, for windows 1 and 2, times 1 and 2 and the least resend wait, with two rows.
+/// All lists of so many of these events, for windows 1 and 2, times 1 and 2 and a resend wait of 0, which stands for 1 and 4,
+/// with two rows.
 pub fn short_trials(program: &str, replay: &Replay, length: u32) -> Outcome {
     let mut cases = vec![];
     for (window, time) in [(1, 1), (1, 2), (2, 1), (2, 2)] {
         let limits = Limits { window, data_life: time, reply_life: time, reply_wait: time, resend_wait: 0 };
-        let limits = limits.with_least_wait();
         for code in 0..EVENTS.len().pow(length) {
             let event = |at: u32| EVENTS[code / EVENTS.len().pow(at) % EVENTS.len()];
             let list: Vec<(u8, u8)> = (0..length).map(event).collect();
@@ -148,5 +148,5 @@ pub fn short_trials(program: &str, replay: &Replay, length: u32) -> Outcome {
             Err(report(program, replay, "short-trials", 0, case.clone()))
         }
     })?;
-    Ok(format!("all {} lists of {length} of {} events, w and times 1 and 2", cases.len(), EVENTS.len()))
+    Ok(format!("all {} lists of {length} of {} events, w and times 1 and 2, wait 0", cases.len(), EVENTS.len()))
 }

@@ -1,7 +1,8 @@
 //! The lists of `short_wait` through the proved library, on both sides of the edge of question 3.
 //!
-//! No call of the library leaves question 3 out, so there a wait that is too short must be refused. With the least wait and the
-//! three above it the lists must go as they go here, whether the resend comes as soon as the timer of row 0 is 0 or too early.
+//! No call of the library leaves question 3 out, so there a wait that is too short must be refused. With the least wait, with 0
+//! in its place and with the three waits above it the lists must go as they go here, whether the resend comes as soon as the
+//! timer of row 0 is 0 or too early.
 
 use crate::checks::{cut, limits_of};
 use crate::compare::{ones, Call, Case, UNWRITTEN};
@@ -16,15 +17,19 @@ use crate::threads::{items, Amount};
 use std::fmt;
 
 /// The resend waits: those that are too short, and from LEAST on those that pass.
-const WAITS: [&str; 6] = ["shorter", "sum less 3", "sum less 2", "sum less 1", "sum", "sum plus 1"];
+const WAITS: [&str; 7] = ["shorter", "sum less 3", "sum less 2", "sum less 1", "sum", "sum plus 1", "0"];
 
 /// The first one that passes.
 const LEAST: usize = 2;
 
+/// The last one, which stands for the least.
+const ZERO: usize = WAITS.len() - 1;
+
 /// How often everything must be met with each window. It has 32 times that are not random and whose sum is 4 or more.
 const ENOUGH: u64 = 32;
 
-/// Limits with this window: all times from 1 to 3, one that is long, all that are long, and so many random ones.
+/// Limits with this window, of which the resend wait is left open: all times from 1 to 3, one that is long, all that are long,
+/// and so many random ones.
 pub fn spread(window: usize, random: &mut Random, more: usize) -> Vec<Limits> {
     let mut times = vec![[250, 250, 250], [1, 1, 250], [1, 250, 1], [250, 1, 1], [9, 9, 1], [5, 5, 3]];
     times.extend((0..27).map(|at| [1 + at % 3, 1 + at / 3 % 3, 1 + at / 9]));
@@ -73,15 +78,15 @@ pub struct Edge {
 }
 
 /// For each wait that is too short its list. For each that passes the lists in which row 0 is to be sent again after so many
-/// ticks: from the sum less 3 to the wait.
+/// ticks: from the sum less 3 to the wait, which for 0 is the least.
 pub fn edges(limits: Limits) -> Vec<Edge> {
     let of = |limits: Limits| Edge { limits, list: events(&limits), shows: Shows::TooShort };
     let mut all: Vec<Edge> = too_short(limits).into_iter().map(of).collect();
     let least = limits.least_wait();
-    for resend_wait in (least..).take(WAITS.len() - LEAST) {
-        let limits = Limits { resend_wait, ..limits };
-        for ticks in (least - 1..=resend_wait).filter(|ticks| *ticks > 0) {
-            let shows = if ticks < resend_wait { Shows::TimerRuns } else { Shows::SentAgain };
+    for resend_wait in (least..).take(ZERO - LEAST).chain([0]) {
+        let (limits, wait) = (Limits { resend_wait, ..limits }, resend_wait.max(least));
+        for ticks in (least - 1..=wait).filter(|ticks| *ticks > 0) {
+            let shows = if ticks < wait { Shows::TimerRuns } else { Shows::SentAgain };
             all.push(Edge { limits, list: after_ticks(limits, ticks), shows });
         }
     }
@@ -157,10 +162,7 @@ impl Waits {
         self.times += 1;
         for edge in edges(limits) {
             let case = edge.case();
-            let recorded = edge.recorded(library, &case).map_err(|found| {
-                let (shorter, case) = cut(library, case.clone());
-                (if shorter.is_empty() { found } else { shorter }, case)
-            })?;
+            let recorded = edge.recorded(library, &case).map_err(|found| cut(library, case.clone(), found))?;
             self.list(&edge, case.calls.len(), recorded);
         }
         Ok(())
@@ -172,8 +174,10 @@ impl Waits {
         self.calls += calls as u64;
         self.events += edge.list.len() as u64;
         self.recorded += recorded as u64;
-        let Limits { resend_wait, .. } = edge.limits;
-        let wait = usize::from((resend_wait + 2).saturating_sub(edge.limits.least_wait()));
+        let wait = match edge.limits.resend_wait {
+            0 => ZERO,
+            wait => usize::from((wait + 2).saturating_sub(edge.limits.least_wait())),
+        };
         self.resends[wait][usize::from(edge.shows == Shows::SentAgain)] += 1;
     }
 

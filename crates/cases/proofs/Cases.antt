@@ -5,7 +5,7 @@ use native.Mathlib.Omega.{arith}
 use lib.ListN.{get_or, replicate, get_or-replicate}
 use Rattle.limits.proofs.Laws.Lists.{get_or-tab}
 use Rattle.limits.specs.Lists.{tab, all, leading, joined}
-use Rattle.limits.specs.Limits.{limits_questions, least_wait, default_wait, window_fits, times_fit, wait_fits, accepted}
+use Rattle.limits.specs.Limits.{limits_questions, least_wait, window_fits, times_fit, wait_fits, accepted}
 use Rattle.limits.specs.Questions.{pick, first_no}
 use Rattle.limits.specs.Cells.{legal_cell}
 use Rattle.limits.specs.Ring.{distance, step}
@@ -40,7 +40,7 @@ for-each {w} some most f {x} e =
     ∙ get_or-replicate 32 (w - 1) x x (omega arith)
 
 pub cases : (w : ℕ) → 1 ≤ w → w ≤ 32 → Every Holds (table w)
-unfolding pick all tab leading joined legal_cell distance step remove age event least_wait default_wait window_fits times_fit wait_fits accepted at after unbounded.answers unbounded.after_all built.answers built.after_all built.next built.continued stepped link_state messages messages_of mat_state pad_state slot_at ready mat.sending mat.resending mat.marked mat.passing mat.ticked pad.arrival pad.replying pad.ticked
+unfolding pick all tab leading joined legal_cell distance step remove age event least_wait window_fits times_fit wait_fits accepted at after unbounded.answers unbounded.after_all built.answers built.after_all built.next built.continued stepped link_state messages messages_of mat_state pad_state slot_at ready mat.sending mat.resending mat.marked mat.passing mat.ticked pad.arrival pad.replying pad.ticked
 cases w some most =
     -- A
     (for-each some most (λ v. first_no (limits_questions (limits v 0))) refl, refl)

@@ -173,7 +173,7 @@ events_i = 1 ∷ 0 ∷ 1 ∷ 0 ∷ 3 ∷ 0 ∷ 4 ∷ 0 ∷ 3 ∷ 0 ∷ 4 ∷ 0 �
 abbrev pub table : ℕ → List Case
 table w =
     -- A
-    opening w 0 (done 4)
+    opening w 0 (done 1)
     -- B
     ∷ opening w 3 (done 3)
     ∷ opening w 4 (done 4)

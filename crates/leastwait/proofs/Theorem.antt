@@ -15,7 +15,7 @@ use Rattle.limits.specs.Questions.{pick, first_no}
 use Rattle.limits.specs.Limits.{between, sum_of_times, window_fits, times_fit, wait_fits, least_wait, limits_questions}
 use Rattle.limits.specs.Events.{events, event}
 use Rattle.limits.proofs.Laws.Choice.{three, pick_yes, pick_no, and-no-left}
-use Rattle.limits.proofs.Laws.Good.{Times, times, between-low, between-high, least-passes, all_pass}
+use Rattle.limits.proofs.Laws.Good.{Times, times, between-low, between-high, range-passes, all_pass}
 use Rattle.limits.proofs.Laws.Questions.{first-stays}
 use Rattle.events.specs.State.{Moved}
 use Rattle.runs.specs.View.{lent_questions}
@@ -147,7 +147,8 @@ short-waits-refused l e =
     opening = pick_yes _ _ _ _ s.window_fits (pick_yes _ _ _ _ s.times_fit (pick_no _ _ _ _ low refl))
 
 pub longer-waits-pass : LongerWaitsPass
-longer-waits-pass l w t e = all_pass l (record { window = w; times = t; wait = least-passes l e })
+unfolding least_wait
+longer-waits-pass l w t e = all_pass l (record { window = w; times = t; wait = range-passes l e })
 
 pub shown-lists : ShownLists
 unfolding joined

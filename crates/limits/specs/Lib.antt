@@ -4,5 +4,6 @@ pub mod Lists
 pub mod Cells
 pub mod Ring
 pub mod Limits
+pub mod Waits
 pub mod Tables
 pub mod Events

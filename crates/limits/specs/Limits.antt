@@ -9,13 +9,9 @@ between low high x = leb low x && leb x high
 abbrev pub sum_of_times : Limits → ℕ
 sum_of_times l = l.datalife + l.replylife + l.replywait
 
--- the shortest resend wait that question 3 takes, besides 0
+-- the shortest resend wait that question 3 takes, besides 0, and what a 0 stands for
 unfoldable pub least_wait : Limits → ℕ
 least_wait l = sum_of_times l - 2
-
--- the resend wait that a 0 stands for
-unfoldable pub default_wait : Limits → ℕ
-default_wait l = sum_of_times l + 1
 
 unfoldable pub window_fits : ℕ → Bool
 window_fits w = between 1 32 w
@@ -37,7 +33,7 @@ accepted l =
       datalife = l.datalife;
       replylife = l.replylife;
       replywait = l.replywait;
-      resendwait = pick (eqb l.resendwait 0) (default_wait l) l.resendwait;
+      resendwait = pick (eqb l.resendwait 0) (least_wait l) l.resendwait;
     }
 
 abbrev pub zero_limits : Limits

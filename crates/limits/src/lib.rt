@@ -1,17 +1,15 @@
 // The limits of a link and questions 1 to 3, the answers of the whole product, legal cells, and steps on the ring of numbers.
 #![tactic(auto)]
 
-ghost use Rattle.std.specs.Prelude.{◌≡◌, ◌≤◌, true};
+ghost use Rattle.std.specs.Prelude.{◌≡◌, true};
 ghost use Rattle.limits.specs.Answer.{number_of};
 ghost use Rattle.limits.specs.Questions.{Answered, first_no};
 ghost use Rattle.limits.specs.Limits.{
   between,
-  sum_of_times,
   window_fits,
   times_fit,
   wait_fits,
   least_wait,
-  default_wait,
   limits_questions,
   accepted,
   sound_limits,
@@ -54,26 +52,12 @@ fn times_fit(l: Limits) -> bool
     within(1, 250, l.datalife) && (within(1, 250, l.replylife) && within(1, 250, l.replywait))
 }
 
-fn sum_of_times(l: Limits) -> u16
-    requires { times_fit l ≡ true }
-    ensures { (result ≡ sum_of_times l) × (3 ≤ result) × (result ≤ 750) }
-{
-    l.datalife + l.replylife + l.replywait
-}
-
 // Stays (no plainer): that the times fit is a clause of what is asked behind them, since the questions are put in order.
 fn least_wait(l: Limits) -> u16
     requires { times_fit l ≡ true }
     ensures { result ≡ least_wait l }
 {
-    sum_of_times(l) - 2
-}
-
-fn default_wait(l: Limits) -> u16
-    requires { times_fit l ≡ true }
-    ensures { result ≡ default_wait l }
-{
-    sum_of_times(l) + 1
+    l.datalife + l.replylife + l.replywait - 2
 }
 
 fn wait_fits(l: Limits) -> bool
@@ -105,7 +89,7 @@ pub fn accept(l: Limits) -> Result<Limits, Refusal>
 {
     asked(l)?;
     let resendwait = if l.resendwait == 0 {
-        default_wait(l)
+        least_wait(l)
     } else {
         l.resendwait
     };

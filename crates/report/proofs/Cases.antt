@@ -4,7 +4,7 @@ use mathlib.Core.Path.{◌≡◌, refl}
 use mathlib.Core.List.{List, [], ◌∷◌, ◌++◌}
 use Rattle.limits.specs.Lists.{tab, all, leading, joined}
 use Rattle.limits.specs.Cells.{legal_cell}
-use Rattle.limits.specs.Limits.{least_wait, default_wait, window_fits, times_fit, wait_fits, accepted}
+use Rattle.limits.specs.Limits.{least_wait, window_fits, times_fit, wait_fits, accepted}
 use Rattle.limits.specs.Questions.{pick}
 use Rattle.limits.specs.Events.{event}
 use Rattle.limits.specs.Tables.{remove, age}
@@ -36,7 +36,7 @@ pub example : text_of (input 1 four)
     ++ (115 ∷ 101 ∷ 110 ∷ 116 ∷ 32 ∷ 49 ∷ [])
     ++ (32 ∷ 97 ∷ 99 ∷ 107 ∷ 110 ∷ 111 ∷ 119 ∷ 108 ∷ 101 ∷ 100 ∷ 103 ∷ 101 ∷ 100 ∷ 32 ∷ 49 ∷ [])
     ++ (32 ∷ 114 ∷ 101 ∷ 99 ∷ 111 ∷ 114 ∷ 100 ∷ 101 ∷ 100 ∷ 32 ∷ 49 ∷ 10 ∷ [])
-unfolding text_of ride_text ends_of answers_of readable limits_of cell_at supply_of event_bytes decimal event_line event_lines counts_line refused_line answers after_all after at pick tab all leading joined remove age event legal_cell least_wait default_wait window_fits times_fit wait_fits accepted
+unfolding text_of ride_text ends_of answers_of readable limits_of cell_at supply_of event_bytes decimal event_line event_lines counts_line refused_line answers after_all after at pick tab all leading joined remove age event legal_cell least_wait window_fits times_fit wait_fits accepted
 example = refl
 
 -- w 0, and an event without its argument

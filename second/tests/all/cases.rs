@@ -26,8 +26,8 @@ fn outstanding(link: &Link) -> usize {
 }
 
 #[test]
-fn a_wait_0_becomes_the_sum_plus_1() {
-    assert_eq!(opening(limits(1, 1, 1, 1, 0)), (0, 4));
+fn a_wait_0_becomes_the_sum_less_2() {
+    assert_eq!(opening(limits(1, 1, 1, 1, 0)), (0, 1));
 }
 
 #[test]

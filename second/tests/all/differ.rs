@@ -28,7 +28,7 @@ fn give(done: Result<Counts, Refusal>, counts: &mut Rises) -> u8 {
 }
 
 /// Limits above 65,535 as 65,535.
-fn limits_of(asked: Asked) -> Limits {
+pub fn limits_of(asked: Asked) -> Limits {
     let [window, data_life, reply_life, reply_wait, resend_wait] = asked.map(|limit| limit.min(65_535) as u16);
     limits(window.into(), data_life, reply_life, reply_wait, resend_wait)
 }
@@ -154,7 +154,7 @@ fn a_report_can_be_replayed() {
     assert_eq!(random_lists(&wrong, &replay(), again), Err(report.clone()));
     let ride: Vec<&str> = report.lines().filter(|line| !line.starts_with('#')).collect();
     let expected = "window 1, data life 1, reply life 1, reply wait 1, rows 1, \
-        send, data 0 arrives, tick 4, resend 0, data 0 arrives";
+        send, data 0 arrives, tick 1, resend 0, data 0 arrives";
     assert_eq!(ride.join(", "), expected);
 }
 

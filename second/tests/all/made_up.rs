@@ -107,7 +107,7 @@ const FREE: [fn(&mut Link); 15] = [
 /// One clause of question 4 broken at a time: both calls answer 4 and change nothing.
 #[test]
 fn question_4_clause_by_clause() {
-    let (_, mut good) = Link::open(limits(3, 5, 6, 7, 0));
+    let (_, mut good) = Link::open(limits(3, 5, 6, 7, 19));
     (good.mat.oldest, good.mat.next, good.pad.wanted) = (4, 1, 2); // rows 4, 5, 0 outstanding, places 1, 2, 0
     good.mat.marked[2] = true;
     good.pad.held[1] = true;

@@ -18,6 +18,7 @@ mod torn;
 mod torn_checks;
 mod trial;
 mod wait_checks;
+mod wait_of_0;
 mod waits;
 
 use second::built::{Counts, Link};

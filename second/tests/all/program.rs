@@ -17,7 +17,7 @@ fn printed(input: &[u8]) -> Vec<u8> {
 
 #[test]
 fn published_example() {
-    let mut input = vec![1, 2, 2, 2, 0, 0, 1];
+    let mut input = vec![1, 2, 2, 2, 7, 0, 1];
     input.extend([5, 0].repeat(16));
     input.extend([1, 0, 3, 0, 4, 0, 5, 0]);
     assert_eq!(printed(&input), b"1 0 0\n3 0 0\n4 0 0\n5 0 0\nsent 1 acknowledged 1 recorded 1\n");

@@ -78,12 +78,12 @@ fn expected_with_least_wait(list: &[(u8, u8)], window: usize) -> Vec<u8> {
     expected
 }
 
-/// The question lets the least wait pass, and with it no more rows are recorded than were sent.
+/// The question lets the least wait pass, by its number and as 0, and with it no more rows are recorded than were sent.
 #[test]
 fn the_least_wait_is_enough() {
     for fresh in all_times() {
         let limits = fresh.with_least_wait();
-        assert_eq!((limits.resend_wait, limits.accept()), (fresh.sum() - 2, Ok(limits)));
+        assert_eq!((limits.resend_wait, limits.accept(), fresh.accept()), (fresh.sum() - 2, Ok(limits), Ok(limits)));
         let (w, list, supply) = (limits.window, events(&limits), different_rows(2 * limits.window));
         assert_eq!(list[5], (8, limits.reply_life as u8));
         let bytes: Vec<u8> = list.iter().flat_map(|&(kind, argument)| [kind, argument]).collect();

@@ -29,10 +29,10 @@ fn a_case_is_cut() {
     assert_eq!(text(&cut), "window 1\ndata life 1\nreply life 1\nreply wait 1\nsend\ntick 10");
 }
 
-/// The least resend wait is left where the longer one that a 0 stands for does not fail.
+/// Where a wait of 0 does not fail, the shortest that does is left.
 #[test]
-fn a_short_wait_is_cut_to_the_least() {
-    let fails = |case: &Case| case.limits.accept().is_ok_and(|limits| limits.resend_wait <= 3);
-    let case = Case { limits: limits(4, 2, 2, 1, 3), supply: vec![], record: vec![], calls: vec![] };
-    assert_eq!(shortest(case, &fails).limits, limits(1, 1, 1, 1, 1));
+fn a_long_wait_is_cut() {
+    let fails = |case: &Case| case.limits.accept().is_ok_and(|limits| limits.resend_wait >= 14);
+    let case = Case { limits: limits(4, 2, 2, 1, 743), supply: vec![], record: vec![], calls: vec![] };
+    assert_eq!(shortest(case, &fails).limits, limits(1, 1, 1, 1, 14));
 }

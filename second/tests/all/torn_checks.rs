@@ -94,6 +94,9 @@ fn another_rule_is_found_by_random_lists() {
     }
 }
 
+/// A change of drawn links, and what none has then.
+pub type Change = (fn(&mut Link), &'static str);
+
 /// Every answer that there can be, in calls enough, and drawn links that are changed.
 pub fn met(change: fn(&mut Link)) -> Met {
     let mut met = Met::default();
@@ -121,7 +124,7 @@ fn mend(rows: &mut [Row]) {
 #[test]
 fn links_without_torn_cells_are_found_out() {
     assert_eq!(met(|_| {}).all_there(), Ok(()));
-    let changes: [(fn(&mut Link), &str); 4] = [
+    let changes: [Change; 4] = [
         (
             |link| {
                 mend(&mut link.mat.rows);

@@ -2,9 +2,9 @@
 
 use second::trial::{output, read, LONGEST_INPUT};
 
-/// The published input: 1 2 2 2 0 0 1, one row of sixteen 5s, and events 1 0, 3 0, 4 0, 5 0.
+/// The published input, with the resend wait written out: 1 2 2 2 7 0 1, one row of sixteen 5s, and events 1 0, 3 0, 4 0, 5 0.
 fn published() -> Vec<u8> {
-    let mut input = vec![1, 2, 2, 2, 0, 0, 1];
+    let mut input = vec![1, 2, 2, 2, 7, 0, 1];
     input.extend([5, 0].repeat(16));
     input.extend([1, 0, 3, 0, 4, 0, 5, 0]);
     input
@@ -17,6 +17,20 @@ fn the_published_example() {
     let input = published();
     let input = read(&input).expect("a good input");
     assert_eq!((input.supply, input.events.len()), (vec![5; 16], 8));
+}
+
+/// The published input with a wait of 0, and with events that show where the resend timer starts: at 4, the sum of 2, 2 and 2
+/// less 2. A wait of 7 refuses both resends.
+#[test]
+fn a_wait_of_0() {
+    let mut input = published();
+    input.truncate(7 + 32);
+    input.extend([1, 0, 8, 3, 2, 0, 8, 1, 2, 0]);
+    for (wait, last) in [(0, 0), (4, 0), (7, 16)] {
+        input[4] = wait;
+        let expected = format!("1 0 0\n8 3 0\n2 0 16\n8 1 0\n2 0 {last}\nsent 1 acknowledged 0 recorded 0\n");
+        assert_eq!(output(&input), expected.into_bytes(), "wait {wait}");
+    }
 }
 
 /// The record is as long as the supply, so 21 does not come from a trial; 11 does.

@@ -2,7 +2,7 @@
 
 use super::differ::{replay, StandIn};
 use super::limits;
-use super::torn_checks::met;
+use super::torn_checks::{met, Change};
 use second::built::Link;
 use second::checks::openings;
 use second::compare::rows;
@@ -28,7 +28,7 @@ fn every_wait() {
         for wait in (0..=1100).chain([65_535]) {
             let asked = limits(7, times[0], times[1], times[2], wait);
             let expected = match wait {
-                0 => Ok(Limits { resend_wait: sum + 1, ..asked }),
+                0 => Ok(Limits { resend_wait: sum - 2, ..asked }),
                 _ if wait > 1000 || wait + 2 < sum => Err(Refusal::ResendWait),
                 _ => Ok(asked),
             };
@@ -38,24 +38,24 @@ fn every_wait() {
     }
 }
 
-/// How many of the limits have a wait of the sum less 2, less 1, less 0 and plus 1, and how many a longer one. A 0 counts as what
-/// it stands for.
-fn above_least(all: impl Iterator<Item = Limits>) -> [usize; 5] {
-    let mut counted = [0; 5];
-    for limits in all.filter_map(|limits| limits.accept().ok()) {
-        counted[usize::from(limits.resend_wait - limits.least_wait()).min(4)] += 1;
+/// How many of the limits have a wait of 0, of the sum less 2, less 1, less 0 and plus 1, and how many a longer one.
+fn drawn_waits(all: impl Iterator<Item = Limits>) -> [usize; 6] {
+    let mut counted = [0; 6];
+    for limits in all.filter(|limits| limits.accept().is_ok()) {
+        let above_least = limits.resend_wait.checked_sub(limits.least_wait());
+        counted[above_least.map_or(0, |above| 1 + usize::from(above.min(4)))] += 1;
     }
     counted
 }
 
-/// Lists and made-up links have each of the four shortest waits often.
+/// Lists have a wait of 0 and each of the four shortest that can be written out often, made-up links each of the four.
 #[test]
 fn short_waits_are_drawn() {
     let mut random = Random::new(5);
-    let lists = above_least((0..2000).map(|_| random_limits(&mut random)));
-    let made_up = above_least((0..2000).map(|_| drawn_link(&mut random).limits));
+    let lists = drawn_waits((0..2000).map(|_| random_limits(&mut random)));
+    let made_up = drawn_waits((0..2000).map(|_| drawn_link(&mut random).limits));
     println!("of 2000 limits for lists {lists:?}, for links {made_up:?}");
-    assert!(lists.iter().chain(&made_up).all(|times| *times > 80));
+    assert!(lists.iter().chain(&made_up[1..]).all(|times| *times > 120));
 }
 
 /// Whether the ends answer differently on a list with a wait of the sum less 3.
@@ -124,13 +124,18 @@ fn short_lists_find_a_wait_that_is_too_short() {
     assert_eq!(lengths.len(), if cfg!(debug_assertions) { 6 } else { 14 });
 }
 
-/// A library that lets waits pass from so many above the sum less 3 on.
-struct LeastWait(u32);
+/// A library that lets waits pass from another one on.
+struct LeastWait {
+    /// How much that wait is above the sum less 3.
+    more: u32,
+    /// Whether question 4 lets a wait of 0 pass, too.
+    zero: bool,
+}
 
 impl LeastWait {
     /// Question 3 by this library's rule, for limits that pass the first two.
     fn waits(&self, [_, data_life, reply_life, reply_wait, resend_wait]: Asked) -> bool {
-        let least = data_life + reply_life + reply_wait + self.0 - 3;
+        let least = data_life + reply_life + reply_wait + self.more - 3;
         (least.max(1)..=1000).contains(&resend_wait)
     }
 
@@ -141,7 +146,8 @@ impl LeastWait {
         let mut longest = Link::from(link);
         longest.limits.resend_wait = 1000;
         let timers = &longest.mat.timers[..usize::from(link.window).min(32)];
-        longest.sound() && timers.iter().all(|timer| *timer <= link.resend_wait) && self.waits(asked)
+        let passes = || self.waits(asked) || self.zero && link.resend_wait == 0;
+        longest.sound() && timers.iter().all(|timer| *timer <= link.resend_wait) && passes()
     }
 }
 
@@ -185,7 +191,7 @@ fn another_least_wait_is_found() {
     let (replay, few) = (replay(), Amount { seed: 0, events: 1 });
     let many = Amount { seed: 0, events: 100_000 };
     for more in [0, 2, 4] {
-        let library = LeastWait(more);
+        let library = LeastWait { more, zero: false };
         let found = openings(&library, &replay, few).expect_err("it is found");
         assert!(found.starts_with("# openings, seed 0: opening with "), "{found}");
         let found = put_waits(&library, &replay, few, 0).expect_err("it is found");
@@ -193,24 +199,30 @@ fn another_least_wait_is_found() {
         let found = made_up_links(&library, &replay, many).expect_err("it is found");
         assert!(found.starts_with("# links, seed ") && found.contains("resend_wait = "), "{found}");
     }
-    let right = LeastWait(1);
+    let right = LeastWait { more: 1, zero: false };
     assert_eq!(openings(&right, &replay, few).err(), None);
     assert_eq!(put_waits(&right, &replay, few, 0).err(), None);
     assert_eq!(made_up_links(&right, &replay, many).err(), None);
 }
 
-/// A change of drawn links, and how much less than the sum no wait is then.
-type Without = (fn(&mut Link), u16);
+/// In question 4 a 0 stands for no other wait.
+#[test]
+fn a_wait_of_0_in_question_4_is_found() {
+    let (library, many) = (LeastWait { more: 1, zero: true }, Amount { seed: 0, events: 100_000 });
+    let found = made_up_links(&library, &replay(), many).expect_err("it is found");
+    assert!(found.starts_with("# links, seed ") && !found.contains("resend_wait = "), "{found}");
+}
 
-/// Links that never have one of the two waits at the edge of question 3.
+/// Links that never have a wait of 0 or one of the two waits at the edge of question 3.
 #[test]
 fn links_without_an_edge_are_found_out() {
-    let without: [Without; 2] = [
-        (|link| link.limits.resend_wait += u16::from(link.limits.resend_wait + 2 == link.limits.sum()), 2),
-        (|link| link.limits.resend_wait += u16::from(link.limits.resend_wait + 3 == link.limits.sum()), 3),
+    let changes: [Change; 3] = [
+        (|link| link.limits.resend_wait = link.limits.resend_wait.max(1), "0"),
+        (|link| link.limits.resend_wait += u16::from(link.limits.resend_wait + 2 == link.limits.sum()), "of the sum less 2"),
+        (|link| link.limits.resend_wait += u16::from(link.limits.resend_wait + 3 == link.limits.sum()), "of the sum less 3"),
     ];
-    for (change, less) in without {
-        let expected = format!("made-up links: none with resend wait of the sum less {less}");
+    for (change, wait) in changes {
+        let expected = format!("made-up links: none with resend wait {wait}");
         assert_eq!(met(change).all_there(), Err(expected));
     }
 }

@@ -1,5 +1,5 @@
 -- What limits that pass their questions are known to satisfy.
-use Prim.Native.Nat.{ℕ, ◌+◌, ◌-◌, ◌≤◌}
+use Prim.Native.Nat.{ℕ, ◌+◌, ◌≤◌}
 use mathlib.Core.Path.{◌≡◌, refl}
 use mathlib.Core.Bool.{Bool, true, false, ◌&&◌}
 use native.Mathlib.Omega.{arith}
@@ -7,8 +7,8 @@ use lib.Dec.{eqb, leb}
 use borrow.Author.Tests.{leb-true, le-leb, eqb-true, eqb-false, not-true, eq-eqb, ne_eqb}
 use Rattle.limits.specs.declared.Limits.{Limits}
 use Rattle.limits.specs.Questions.{pick, first_no}
-use Rattle.limits.specs.Limits.{between, sum_of_times, window_fits, times_fit, wait_fits, least_wait, default_wait, limits_questions, accepted, sound_limits}
-use Rattle.limits.proofs.Laws.Choice.{and_left, and_right, both, test, pick_yes}
+use Rattle.limits.specs.Limits.{between, sum_of_times, window_fits, times_fit, wait_fits, least_wait, limits_questions, accepted, sound_limits}
+use Rattle.limits.proofs.Laws.Choice.{and_left, and_right, both, two, test, pick_yes}
 
 pub between-low : (low high x : ℕ) → between low high x ≡ true → low ≤ x
 between-low low high x e = leb-true low x (and_left (leb low x) (leb x high) e)
@@ -79,50 +79,62 @@ pub record Good (l : Limits) : Type 0 where
   pub resend-low : sum_of_times l ≤ l.resendwait + 2
   pub resend-high : l.resendwait ≤ 1000
 
-wait-range : (l : Limits) → wait_fits l ≡ true → eqb l.resendwait 0 ≡ false → between (least_wait l) 1000 l.resendwait ≡ true
+pub wait-range : (l : Limits) → wait_fits l ≡ true → eqb l.resendwait 0 ≡ false → between (least_wait l) 1000 l.resendwait ≡ true
 unfolding wait_fits
 wait-range l e ne = rw ne at e
 
 passes-good : (l : Limits) → Passes l → eqb l.resendwait 0 ≡ false → Good l
 unfolding window_fits least_wait
 passes-good l p ne =
-    let low = between-low (least_wait l) 1000 l.resendwait (wait-range l p.wait ne) in
+    let range = wait-range l p.wait ne in
+    let low = between-low (least_wait l) 1000 l.resendwait range in
     record {
       window-low = between-low 1 32 l.window p.window;
       window-high = between-high 1 32 l.window p.window;
       times = times l p.times;
       resend-low = omega arith;
-      resend-high = between-high (least_wait l) 1000 l.resendwait (wait-range l p.wait ne);
+      resend-high = between-high (least_wait l) 1000 l.resendwait range;
     }
 
-pub good : (l : Limits) → sound_limits l ≡ true → Good l
+pub sound-parts : (l : Limits) → sound_limits l ≡ true → (first_no (limits_questions l) ≡ 0) × (eqb l.resendwait 0 ≡ false)
 unfolding sound_limits
-good l e =
-    passes-good l (passes l (eqb-true _ _ (and_left (eqb (first_no (limits_questions l)) 0) _ e)))
-    (not-true _ (and_right (eqb (first_no (limits_questions l)) 0) _ e))
+sound-parts l e = let x = two (eqb (first_no (limits_questions l)) 0) _ e in (eqb-true _ _ x.0, not-true _ x.1)
 
--- a wait from the sum less 2 to 1000 passes question 3
-pub least-passes : (l : Limits) → between (sum_of_times l - 2) 1000 l.resendwait ≡ true → wait_fits l ≡ true
-unfolding wait_fits least_wait
-least-passes l e = test (eqb l.resendwait 0) (λ z. rw z refl) (λ z. rw z e)
+pub good : (l : Limits) → sound_limits l ≡ true → Good l
+good l e = let s = sound-parts l e in passes-good l (passes l s.0) s.1
+
+-- a wait in the range of question 3 passes it
+pub range-passes : (l : Limits) → between (least_wait l) 1000 l.resendwait ≡ true → wait_fits l ≡ true
+unfolding wait_fits
+range-passes l e = test (eqb l.resendwait 0) (λ z. rw z refl) (λ z. rw z e)
 
 pub all_pass : (l : Limits) → Passes l → first_no (limits_questions l) ≡ 0
 all_pass l p = pick_yes _ _ _ _ p.window (pick_yes _ _ _ _ p.times (pick_yes _ _ _ _ p.wait refl))
 
--- the wait of accepted limits: the one asked for, or the default
-accepted-wait : (l : Limits) → Passes l → wait_fits (accepted l) ≡ true
-unfolding accepted wait_fits pick least_wait default_wait
-accepted-wait l p =
+pub least-not-0 : (l : Limits) → Times l → 1 ≤ least_wait l
+unfolding least_wait
+least-not-0 l t = omega arith
+
+-- the wait of accepted limits: the one asked for, or the least
+accepted-range : (l : Limits) → Passes l → between (least_wait l) 1000 (accepted l).resendwait ≡ true
+unfolding accepted pick least_wait
+accepted-range l p =
     test (eqb l.resendwait 0)
-    (λ e. rw (e, ne_eqb (sum_of_times l + 1) 0 (λ z. omega arith)) (let t = times l p.times in in_between (sum_of_times l - 2) 1000 (sum_of_times l + 1) (omega arith) (omega arith)))
-    (λ e. rw e p.wait)
+    (λ e. rw e (let t = times l p.times in in_between (least_wait l) 1000 _ (omega arith) (omega arith)))
+    (λ e. rw e (wait-range l p.wait e))
 
 -- accepted limits are sound
 pub accepted-sound : (l : Limits) → first_no (limits_questions l) ≡ 0 → sound_limits (accepted l) ≡ true
-unfolding sound_limits accepted pick default_wait times_fit
+unfolding sound_limits accepted least_wait times_fit
 accepted-sound l e =
-    both _ _ (eq-eqb _ _ (all_pass (accepted l) (record { window = p.window; times = p.times; wait = accepted-wait l p })))
-    (test (eqb l.resendwait 0) (λ z. rw (z, ne_eqb (sum_of_times l + 1) 0 (λ y. omega arith))) (λ z. rw (z, z)))
+    both _ _ (eq-eqb _ _ (all_pass (accepted l) (record { window = p.window; times = p.times; wait = range-passes (accepted l) range })))
+    (rw (ne_eqb (accepted l).resendwait 0 (λ z. let h = not-0 in omega arith)))
   where
     p : Passes l
     p = passes l e
+
+    range : between (least_wait l) 1000 (accepted l).resendwait ≡ true
+    range = accepted-range l p
+
+    not-0 : 1 ≤ (accepted l).resendwait
+    not-0 = let low = between-low (least_wait l) 1000 (accepted l).resendwait range in let least = least-not-0 l (times l p.times) in omega arith
