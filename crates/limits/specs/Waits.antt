@@ -12,7 +12,7 @@ with_wait l r = record { window = l.window; datalife = l.datalife; replylife = l
 abbrev pub Opens : Limits → Limits → Type 0
 Opens asked l = (first_no (limits_questions asked) ≡ 0) × (accepted asked ≡ l)
 
--- A wait of 0 stands for the times' sum less 2. That one can be written out, too; it is not 0, and no shorter one passes.
+-- A wait of 0 stands for the times' sum less 2. That one can be written out, too; it is not 0, and no shorter one from 1 on passes.
 pub record Shortest (l : Limits) : Type 0 where
   pub left_at_0 : Opens (with_wait l 0) (with_wait l (sum_of_times l - 2))
   pub written_out : Opens (with_wait l (sum_of_times l - 2)) (with_wait l (sum_of_times l - 2))

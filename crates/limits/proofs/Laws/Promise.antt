@@ -84,14 +84,6 @@ pub changed-refused : {S V X : Type 0} (qs : List Question) (refusal : Refusal) 
 changed-refused qs refusal done shown moved sound before after e h =
     record { answered = record { number = e; value = tt }; left = tt; kept = h; stays = λ b. rw h b }
 
--- what an Ok says: that every question was passed, and what it holds
-module _ {X : Type 0} (qs : List Question) (r : Result X Refusal) (done x : X) (a : Answered qs r done) (e : r ≡ Ok x) where
-  pub ok-passed : first_no qs ≡ 0
-  ok-passed = sym a.number ∙ ap number_of e
-
-  pub ok-is : x ≡ done
-  ok-is = rw e at a.value
-
 -- a refusal that `?` hands on, where the state is as it was
 pub changed-handed_on : {S V X : Type 0} (qs : List Question) (r : Result X Refusal) (refusal : Refusal) (done : X) (shown moved : V) (sound : S → Bool) (before after : S)
     → IsErrAnd r (λ e. e ≡ refusal) → refusal_number refusal ≡ first_no qs → after ≡ before → Changed qs r done shown moved sound before after

@@ -1,7 +1,7 @@
 -- Laws on a list that is changed at the indexes that pass a test.
 use Prim.Native.Nat.{ℕ, ◌+◌, ◌-◌, ◌≤◌, ◌<◌}
 use mathlib.Core.Path.{◌≡◌, refl, sym, ◌∙◌, ap}
-use mathlib.Core.Bool.{Bool, true, false, ◌&&◌}
+use mathlib.Core.Bool.{Bool, true, false}
 use mathlib.Core.List.{List, ◌++◌}
 use native.Mathlib.Omega.{arith}
 use lib.Dec.{leb, ltb, eqb}
@@ -64,16 +64,6 @@ pub put-length : {A : Type 0} (xs : List A) (a b : ℕ) (ys : List A) → a ≤ 
 put-length xs a b ys h k l = same_len_mid a (b - a) xs ys (l ∙ sym (length-take (b - a) (drop a xs) ∙ (let e = length-drop a xs in omega arith)))
 
 module _ {A : Type 0} (d : A) (new : ℕ → A) (xs : List A) where
-  pub range_none : (a : ℕ) → changed d (from_to a a) new xs ≡ xs
-  range_none a = changed-none d (from_to a a) new xs (λ i h. split a i (λ k. above a a i k) (λ k. below a a i k))
-
-  pub range-more : (a b : ℕ) → a ≤ b → set (changed d (from_to a b) new xs) b (new b) ≡ changed d (from_to a (b + 1)) new xs
-  range-more a b h =
-      changed-more d (from_to a b) (from_to a (b + 1)) new xs b (inside a (b + 1) b h (omega arith))
-      (λ i _ ne. split b i
-      (λ k. above a (b + 1) i (let n : i ≡ b → ⊥ = ne in omega arith) ∙ sym (above a b i k))
-      (λ k. ap (leb a i &&◌) (lt-ltb i (b + 1) (omega arith) ∙ sym (lt-ltb i b k))))
-
   -- by index
   pub is-range : (a b : ℕ) (ys : List A) → length ys ≡ length xs → ((i : ℕ) → a ≤ i → i < b → get_or ys i d ≡ new i)
       → ((i : ℕ) → i < a → get_or ys i d ≡ get_or xs i d) → ((i : ℕ) → b ≤ i → get_or ys i d ≡ get_or xs i d) → ys ≡ changed d (from_to a b) new xs

@@ -59,9 +59,6 @@ next_place w from i at to e q = q ∙ ap (λ a. (a + 1) % w) e ∙ mod-add-mod (
 pub place-below : (w a : ℕ) → 1 ≤ w → a % w < w
 place-below w a h = mod-lt a h
 
-pub at-below : (w a at : ℕ) → 1 ≤ w → at ≡ a % w → at < w
-at-below w a at h e = rw e (mod-lt a h)
-
 pub next-below : (w at to : ℕ) → at < w → to ≡ (at + 1) % w → to < w
 next-below w at to h e = rw e (mod-lt (at + 1) (omega arith))
 
