@@ -1,5 +1,7 @@
 pub mod Parts
 pub mod Ends
+pub mod Rises
+pub mod Counting
 pub mod Messages
 pub mod Tables
 pub mod Sending

@@ -2,6 +2,7 @@
 use Rattle.std.specs.Prelude.{ℕ, ◌≡◌, List, Result, Ok, Err}
 use Rattle.limits.specs.declared.answer.Refusal.{Refusal}
 use Rattle.limits.specs.Answer.{refusal_number}
+use Rattle.limits.specs.Questions.{Answer}
 use Rattle.limits.specs.Tables as tables
 use Rattle.limits.specs.Events as paper
 use Rattle.mat.specs.View.{mat_of}
@@ -11,10 +12,9 @@ use Rattle.air.specs.Data.{data_table}
 use Rattle.air.specs.Replies.{reply_table, reply_messages}
 use Rattle.events.specs.declared.Link.{Link}
 use Rattle.events.specs.declared.LentLink.{LentLink}
-use Rattle.events.specs.declared.Counts.{Counts}
 use Rattle.events.specs.declared.event.Event.{Event}
 use Rattle.events.specs.declared.event.Event.TheVariants.{Send, Resend, ArriveData, Reply, ArriveReply, LoseData, LoseReply, Tick}
-use Rattle.events.specs.State.{LinkState, unmoved}
+use Rattle.events.specs.State.{LinkState}
 use Rattle.events.specs.Rules.{old_taken, answer}
 use Rattle.events.specs.View.{link_state, LinkCall}
 
@@ -56,6 +56,6 @@ ReadAs kind argument (Err refusal) =
     (supply before : List ℕ) (s : LinkState) → refusal_number refusal ≡ answer supply before s (paper.event kind argument)
 
 -- What the reply to an old row promises: 18, and message p left the data table.
-abbrev pub OldTaken : Link → List ℕ → ℕ → tables.Reply → Link → Result Counts Refusal → Type 0
+abbrev pub OldTaken : Link → List ℕ → ℕ → tables.Reply → Link → Answer → Type 0
 OldTaken k buffer p x k' r =
-    LinkCall (room_questions 18 (reply_messages k.replies)) (unmoved (old_taken (link_state k) p x) buffer) k buffer k' buffer r
+    LinkCall (room_questions 18 (reply_messages k.replies)) (old_taken (link_state k) p x, buffer) (tt {0}) k buffer k' buffer r

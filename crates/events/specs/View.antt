@@ -1,7 +1,7 @@
 -- How the link's structs show its state, question 4 of a link, and what an event of a sound link promises.
-use Rattle.std.specs.Prelude.{ℕ, Bool, ◌&&◌, List, length, Result}
+use Rattle.std.specs.Prelude.{ℕ, ◌+◌, ◌^◌, ◌<◌, Bool, ◌&&◌, List, length, Result}
 use Rattle.limits.specs.declared.answer.Refusal.{Refusal}
-use Rattle.limits.specs.Questions.{Question, Changed}
+use Rattle.limits.specs.Questions.{Question, Answer, Changed}
 use Rattle.limits.specs.Limits.{sound_limits}
 use Rattle.limits.specs.Events.{Event}
 use Rattle.mat.specs.View.{mat_state, sound_mat}
@@ -10,7 +10,7 @@ use Rattle.air.specs.Data.{data_messages, sound_data_table}
 use Rattle.air.specs.Replies.{reply_messages, sound_reply_table}
 use Rattle.events.specs.declared.Link.{Link}
 use Rattle.events.specs.declared.Counts.{Counts}
-use Rattle.events.specs.State.{LinkState, Moved}
+use Rattle.events.specs.State.{LinkState, added}
 use Rattle.events.specs.Rules.{questions, acted}
 
 unfoldable pub link_state : Link → LinkState
@@ -30,14 +30,28 @@ sound_link k =
     && (sound_mat k.limits k.mat
     && (sound_pad k.limits k.pad && (sound_data_table k.limits k.datas && sound_reply_table k.limits k.replies)))
 
--- What a call on a link promises that puts `questions` and does what `moved` says: the counts it answers with, the link and the
--- record's contents. Refused, it leaves both as they were.
-abbrev pub LinkCall : List Question → Moved → Link → List ℕ → Link → List ℕ → Result Counts Refusal → Type 0
-LinkCall questions moved k before k' after r =
-    Changed {S = Link × List ℕ} {V = LinkState × List ℕ} questions r moved.counts (link_state k', after) (moved.state, moved.buffer) (λ x. sound_link x.0)
-    (k, before) (k', after)
+-- What a call on a link promises that puts `questions`, leaves the state and the record's contents `left`, and has `value` to
+-- tell. Refused, it leaves both as they were.
+abbrev pub LinkCall : {A : Type 0} → List Question → LinkState × List ℕ → A → Link → List ℕ → Link → List ℕ → Result A Refusal → Type 0
+LinkCall questions left value k before k' after r =
+    Changed {S = Link × List ℕ} questions r value (link_state k', after) left (λ x. sound_link x.0) (k, before) (k', after)
 
--- What an event of a sound link promises. `before` and `after` are the record's contents at entry and at exit.
-abbrev pub Moves : Link → List ℕ → List ℕ → List ℕ → Event → Link → Result Counts Refusal → Type 0
-Moves k supply before after e k' r =
-    LinkCall (questions supply (length before) (link_state k) e) (acted supply before (link_state k) e) k before k' after r
+-- What an event of a sound link promises that has `value` to tell. `before` and `after` are the record's contents at
+-- entry and at exit.
+abbrev pub Moves : {A : Type 0} → Link → List ℕ → List ℕ → List ℕ → Event → A → Link → Result A Refusal → Type 0
+Moves k supply before after e value k' r =
+    let moved = acted supply before (link_state k) e in
+    LinkCall (questions supply (length before) (link_state k) e) (moved.state, moved.buffer) value k before k' after r
+
+-- What an event of a sound link promises that is counted, where `counts` are the counts before it and `counts'` those behind it. Refused,
+-- it leaves them, too, as they were.
+abbrev pub Counted : Link → List ℕ → List ℕ → List ℕ → Counts → Event → Link → Counts → Answer → Type 0
+Counted k supply before after counts e k' counts' r =
+    let moved = acted supply before (link_state k) e in
+    Changed {S = Link × List ℕ × Counts} {V = LinkState × List ℕ × Counts} (questions supply (length before) (link_state k) e) r tt
+    (link_state k', after, counts') (moved.state, moved.buffer, added counts moved.counts) (λ x. sound_link x.0)
+    (k, before, counts) (k', after, counts')
+
+-- each count has room for what one event adds
+abbrev pub HasRoom : Counts → Type 0
+HasRoom n = (n.sent + 32 < 2 ^ 64) × (n.acknowledged + 32 < 2 ^ 64) × (n.recorded + 32 < 2 ^ 64)

@@ -1,7 +1,7 @@
 // Inner: called by lists. An event as its two bytes say it, and what a link does at it.
 ghost use Rattle.std.specs.Prelude.{◌≡◌, true};
 ghost use Rattle.limits.specs.Events.{event};
-ghost use Rattle.events.specs.View.{sound_link, Moves};
+ghost use Rattle.events.specs.View.{sound_link, Counted, HasRoom};
 ghost use Rattle.events.specs.Lent.{lent_link, StaysLent, event_of, ReadAs};
 
 use crate::{Counts, LentLink};
@@ -44,20 +44,29 @@ impl Event {
 
 impl LentLink<'_> {
     // The questions of the event's kind, and what it does.
-    fn act(&mut self, event: Event, supply: &[u16], record: &mut [u16]) -> Result<Counts, Refusal>
-        requires { sound_link (lent_link self.old) ≡ true }
+    fn act(
+        &mut self,
+        event: Event,
+        supply: &[u16],
+        record: &mut [u16],
+        counts: &mut Counts,
+    ) -> Result<(), Refusal>
+        requires { (sound_link (lent_link self.old) ≡ true) × HasRoom counts.old }
         ensures lent { StaysLent self.old self.new }
-        ensures moves { Moves (lent_link self.old) supply.now «record».old «record».new (event_of event) (lent_link self.new) result }
+        ensures counted { Counted (lent_link self.old) supply.now «record».old «record».new counts.old (event_of event) (lent_link self.new) counts.new result }
     {
         match event {
-            Event::Send => self.send(supply),
+            Event::Send => self.send(supply, counts),
             Event::Resend(k) => self.resend(k),
             Event::ArriveData(p) => self.arrive_data(p),
-            Event::Reply => self.reply(record),
-            Event::ArriveReply(p) => self.arrive_reply(p),
+            Event::Reply => self.reply(record, counts),
+            Event::ArriveReply(p) => self.arrive_reply(p, counts),
             Event::LoseData(p) => self.lose_data(p),
             Event::LoseReply(p) => self.lose_reply(p),
-            Event::Tick(d) => self.tick(d),
+            Event::Tick(d) => {
+                self.tick(d);
+                Ok(())
+            }
         }
     }
 
@@ -68,12 +77,13 @@ impl LentLink<'_> {
         argument: u8,
         supply: &[u16],
         record: &mut [u16],
-    ) -> Result<Counts, Refusal>
-        requires { sound_link (lent_link self.old) ≡ true }
+        counts: &mut Counts,
+    ) -> Result<(), Refusal>
+        requires { (sound_link (lent_link self.old) ≡ true) × HasRoom counts.old }
         ensures lent { StaysLent self.old self.new }
-        ensures moves { Moves (lent_link self.old) supply.now «record».old «record».new (event kind argument) (lent_link self.new) result }
+        ensures counted { Counted (lent_link self.old) supply.now «record».old «record».new counts.old (event kind argument) (lent_link self.new) counts.new result }
     {
         let event = Event::read(kind, argument)?;
-        self.act(event, supply, record)
+        self.act(event, supply, record, counts)
     }
 }

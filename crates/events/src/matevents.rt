@@ -1,7 +1,7 @@
 // Inner: called by `act` (event). The events at the mat: send, resend, a reply arrives. The link passed question 4.
 ghost use Rattle.std.specs.Prelude.{◌≡◌, true, List, ℕ};
 ghost use Rattle.limits.specs.Events.{send, resend, arrive_reply};
-ghost use Rattle.events.specs.View.{sound_link, Moves};
+ghost use Rattle.events.specs.View.{sound_link, HasRoom, Moves, Counted};
 ghost use Rattle.events.specs.Lent.{lent_link, StaysLent};
 
 use crate::{Counts, LentLink};
@@ -13,13 +13,13 @@ use std::marker::PhantomData;
 
 impl LentLink<'_> {
     // The next row is sent: 10, 11, 12, 13.
-    pub fn send(&mut self, supply: &[u16]) -> Result<Counts, Refusal>
-        requires { sound_link (lent_link self.old) ≡ true }
+    pub fn send(&mut self, supply: &[u16], counts: &mut Counts) -> Result<(), Refusal>
+        requires { (sound_link (lent_link self.old) ≡ true) × HasRoom counts.old }
         ensures lent { StaysLent self.old self.new }
         ensures untouched { (self.new.marks.now ≡ self.old.marks.now) × (self.new.held.now ≡ self.old.held.now)
             × (self.new.padtimers.now ≡ self.old.padtimers.now) × (self.new.padcells.now ≡ self.old.padcells.now)
             × (self.new.replies.now ≡ self.old.replies.now) }
-        ensures moves { (b : List ℕ) → Moves (lent_link self.old) supply.now b b send (lent_link self.new) result }
+        ensures counted { (b : List ℕ) → Counted (lent_link self.old) supply.now b b counts.old send (lent_link self.new) counts.new result }
     {
         let mut mat = lend_mat!(self);
         let row = mat.next_row(self.limits, supply)?;
@@ -31,20 +31,18 @@ impl LentLink<'_> {
         self.numbers.next = mat.next;
         datas.put(self.limits, data);
         self.numbers.datas = datas.count;
-        Ok(Counts {
-            sent: 1,
-            ..Counts::default()
-        })
+        counts.sent += 1;
+        Ok(())
     }
 
     // The kept row oldest + k is sent again: 14, 15, 16, 13.
-    pub fn resend(&mut self, k: usize) -> Result<Counts, Refusal>
+    pub fn resend(&mut self, k: usize) -> Result<(), Refusal>
         requires { sound_link (lent_link self.old) ≡ true }
         ensures lent { StaysLent self.old self.new }
         ensures untouched { (self.new.marks.now ≡ self.old.marks.now) × (self.new.matcells.now ≡ self.old.matcells.now)
             × (self.new.held.now ≡ self.old.held.now) × (self.new.padtimers.now ≡ self.old.padtimers.now)
             × (self.new.padcells.now ≡ self.old.padcells.now) × (self.new.replies.now ≡ self.old.replies.now) }
-        ensures moves { (supply b : List ℕ) → Moves (lent_link self.old) supply b b (resend k) (lent_link self.new) result }
+        ensures moves { (supply b : List ℕ) → Moves (lent_link self.old) supply b b (resend k) (tt {0}) (lent_link self.new) result }
     {
         let mut mat = lend_mat!(self);
         let number = mat.due(self.limits, k)?;
@@ -55,17 +53,17 @@ impl LentLink<'_> {
         let again = mat.again(self.limits, number);
         datas.put(self.limits, again);
         self.numbers.datas = datas.count;
-        Ok(Counts::default())
+        Ok(())
     }
 
     // Message p arrives at the mat and leaves the reply table: 17, 19.
-    pub fn arrive_reply(&mut self, p: usize) -> Result<Counts, Refusal>
-        requires { sound_link (lent_link self.old) ≡ true }
+    pub fn arrive_reply(&mut self, p: usize, counts: &mut Counts) -> Result<(), Refusal>
+        requires { (sound_link (lent_link self.old) ≡ true) × HasRoom counts.old }
         ensures lent { StaysLent self.old self.new }
         ensures untouched { (self.new.mattimers.now ≡ self.old.mattimers.now) × (self.new.matcells.now ≡ self.old.matcells.now)
             × (self.new.held.now ≡ self.old.held.now) × (self.new.padtimers.now ≡ self.old.padtimers.now)
             × (self.new.padcells.now ≡ self.old.padcells.now) × (self.new.datas.now ≡ self.old.datas.now) }
-        ensures moves { (supply b : List ℕ) → Moves (lent_link self.old) supply b b (arrive_reply p) (lent_link self.new) result }
+        ensures counted { (supply b : List ℕ) → Counted (lent_link self.old) supply b b counts.old (arrive_reply p) (lent_link self.new) counts.new result }
     {
         let mut replies = lend_replies!(self);
         let reply = replies.find(p)?;
@@ -74,9 +72,7 @@ impl LentLink<'_> {
         self.numbers.oldest = mat.oldest;
         replies.remove(p);
         self.numbers.replies = replies.count;
-        Ok(Counts {
-            acknowledged,
-            ..Counts::default()
-        })
+        counts.acknowledged += acknowledged;
+        Ok(())
     }
 }

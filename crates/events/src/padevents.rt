@@ -2,7 +2,7 @@
 // question 4.
 ghost use Rattle.std.specs.Prelude.{◌≡◌, true, List, [], ℕ, ◌*◌, ◌<◌};
 ghost use Rattle.limits.specs.Events.{arrive_data, reply};
-ghost use Rattle.events.specs.View.{sound_link, Moves};
+ghost use Rattle.events.specs.View.{sound_link, HasRoom, Moves, Counted};
 ghost use Rattle.events.specs.Lent.{lent_link, StaysLent, OldTaken};
 
 use crate::{Counts, LentLink};
@@ -14,7 +14,7 @@ use std::marker::PhantomData;
 
 impl LentLink<'_> {
     // Message p is an old row: it is replied to and leaves the data table: 18.
-    fn take_old(&mut self, p: usize, number: usize) -> Result<Counts, Refusal>
+    fn take_old(&mut self, p: usize, number: usize) -> Result<(), Refusal>
         requires { (sound_link (lent_link self.old) ≡ true) × (p < self.old.numbers.datas) × (number < 2 * self.old.limits.window) }
         ensures lent { StaysLent self.old self.new }
         ensures untouched { (self.new.marks.now ≡ self.old.marks.now) × (self.new.mattimers.now ≡ self.old.mattimers.now)
@@ -35,16 +35,16 @@ impl LentLink<'_> {
         let mut datas = lend_datas!(self);
         datas.remove(p);
         self.numbers.datas = datas.count;
-        Ok(Counts::default())
+        Ok(())
     }
 
     // Message p arrives at the pad and leaves the data table: 17, and for an old row 18.
-    pub fn arrive_data(&mut self, p: usize) -> Result<Counts, Refusal>
+    pub fn arrive_data(&mut self, p: usize) -> Result<(), Refusal>
         requires { sound_link (lent_link self.old) ≡ true }
         ensures lent { StaysLent self.old self.new }
         ensures untouched { (self.new.marks.now ≡ self.old.marks.now) × (self.new.mattimers.now ≡ self.old.mattimers.now)
             × (self.new.matcells.now ≡ self.old.matcells.now) }
-        ensures moves { (supply b : List ℕ) → Moves (lent_link self.old) supply b b (arrive_data p) (lent_link self.new) result }
+        ensures moves { (supply b : List ℕ) → Moves (lent_link self.old) supply b b (arrive_data p) (tt {0}) (lent_link self.new) result }
     {
         let data = lend_datas!(self).find(p)?;
         let mut pad = lend_pad!(self);
@@ -55,17 +55,17 @@ impl LentLink<'_> {
         let mut taken = lend_datas!(self);
         taken.remove(p);
         self.numbers.datas = taken.count;
-        Ok(Counts::default())
+        Ok(())
     }
 
     // The run of rows at wanted is recorded and replied to: 20, 21, 18.
-    pub fn reply(&mut self, record: &mut [u16]) -> Result<Counts, Refusal>
-        requires { sound_link (lent_link self.old) ≡ true }
+    pub fn reply(&mut self, record: &mut [u16], counts: &mut Counts) -> Result<(), Refusal>
+        requires { (sound_link (lent_link self.old) ≡ true) × HasRoom counts.old }
         ensures lent { StaysLent self.old self.new }
         ensures untouched { (self.new.marks.now ≡ self.old.marks.now) × (self.new.mattimers.now ≡ self.old.mattimers.now)
             × (self.new.matcells.now ≡ self.old.matcells.now) × (self.new.padtimers.now ≡ self.old.padtimers.now)
             × (self.new.padcells.now ≡ self.old.padcells.now) × (self.new.datas.now ≡ self.old.datas.now) }
-        ensures moves { (supply : List ℕ) → Moves (lent_link self.old) supply «record».old «record».new reply (lent_link self.new) result }
+        ensures counted { (supply : List ℕ) → Counted (lent_link self.old) supply «record».old «record».new counts.old reply (lent_link self.new) counts.new result }
     {
         let mut pad = lend_pad!(self);
         let count = pad.run_length(self.limits)?;
@@ -80,9 +80,7 @@ impl LentLink<'_> {
         self.numbers.wanted = pad.wanted;
         replies.put(self.limits, run);
         self.numbers.replies = replies.count;
-        Ok(Counts {
-            recorded: count,
-            ..Counts::default()
-        })
+        counts.recorded += count;
+        Ok(())
     }
 }

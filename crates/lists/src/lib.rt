@@ -1,31 +1,13 @@
 // Inner: called by runs. A list of events, two bytes each, of a link that passed question 4 and whose arrays are lent.
 #![tactic(auto)]
 
-ghost use Rattle.std.specs.Prelude.{◌≡◌, true, ◌+◌, ◌/◌, ◌%◌, ◌^◌, ◌<◌, ◌≤◌, length, take};
+ghost use Rattle.std.specs.Prelude.{◌≡◌, true, ◌/◌, ◌%◌, ◌≤◌, length, take};
 ghost use Rattle.limits.specs.Lists.{all};
-ghost use Rattle.events.specs.State.{risen, added};
 ghost use Rattle.events.specs.View.{sound_link, link_state};
 ghost use Rattle.events.specs.Lent.{lent_link, StaysLent};
 ghost use Rattle.lists.specs.View.{refuses, running};
 
 use events::{Counts, LentLink};
-use limits::answer::Refusal;
-
-// The counts so far and those of one event, which are none where it was refused.
-fn raised(counts: Counts, answer: Result<Counts, Refusal>) -> Counts
-    requires { (counts.sent + (risen answer).sent < 2 ^ 64) × (counts.acknowledged + (risen answer).acknowledged < 2 ^ 64)
-        × (counts.recorded + (risen answer).recorded < 2 ^ 64) }
-    ensures { result ≡ added counts (risen answer) }
-{
-    match answer {
-        Ok(more) => Counts {
-            sent: counts.sent + more.sent,
-            acknowledged: counts.acknowledged + more.acknowledged,
-            recorded: counts.recorded + more.recorded,
-        },
-        Err(_) => counts,
-    }
-}
 
 // Every event in order, each on the unsent rest of the supply and the unwritten rest of the record. Where every event was
 // refused, the link is as it was.
@@ -45,14 +27,14 @@ pub fn run_events(
 {
     let mut counts = Counts::default();
     for i in 0..events.len() / 2 {
-        let result = link.event(
+        let answer = link.event(
             events[2 * i],
             events[2 * i + 1],
             &supply[16 * counts.sent..],
             &mut record[16 * counts.recorded..],
+            &mut counts,
         );
-        answers[i] = limits::answer::number(&result);
-        counts = raised(counts, result);
+        answers[i] = limits::answer::number(&answer);
     }
     counts
 }

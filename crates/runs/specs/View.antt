@@ -17,8 +17,9 @@ whole_rows supply = ask 6 (eqb (length supply % 16) 0) ∷ []
 -- The call for one event: 4, 6, and the event's own questions.
 abbrev pub Stepped : Link → ℕ → ℕ → List ℕ → List ℕ → List ℕ → Link → Result Counts Refusal → Type 0
 Stepped k kind argument supply before after k' r =
-    LinkCall (ask 4 (sound_link k) ∷ (whole_rows supply ++ questions supply (length before) (link_state k) (event kind argument)))
-    (acted supply before (link_state k) (event kind argument)) k before k' after r
+    let moved = acted supply before (link_state k) (event kind argument) in
+    LinkCall (ask 4 (sound_link k) ∷ (whole_rows supply ++ questions supply (length before) (link_state k) (event kind argument))) (moved.state, moved.buffer) moved.counts
+    k before k' after r
 
 -- 5, 6 and 7, of the lengths of what is lent to a run: event bytes, cells of supply, answer bytes
 abbrev pub lent_asks : ℕ → ℕ → ℕ → List Question

@@ -52,7 +52,9 @@ pub fn step(
     if supply.len() % 16 != 0 {
         return Err(Refusal::PartialRow);
     }
-    link.event(kind, argument, supply, record)
+    let mut counts = Counts::default();
+    link.event(kind, argument, supply, record, &mut counts)?;
+    Ok(counts)
 }
 
 // What is lent to a run, by its lengths: 5, 6, 7.

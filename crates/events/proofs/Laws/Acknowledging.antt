@@ -19,7 +19,7 @@ use Rattle.air.specs.Rules.{place_questions}
 use Rattle.air.specs.Data.{data_messages}
 use Rattle.air.specs.Replies.{ReplyTable, reply_messages, ReplyHolds, ReplyFound}
 use Rattle.events.specs.declared.Link.{Link}
-use Rattle.events.specs.State.{acknowledged_by}
+use Rattle.events.specs.Rules.{acted}
 use Rattle.events.specs.View.{link_state, Moves}
 use Rattle.events.proofs.Laws.Parts.{Parts, whole}
 use Rattle.events.proofs.Laws.Ends.{done}
@@ -48,10 +48,10 @@ module _ (k : Link) (p : Parts k) (n : ℕ) (body : Reply) (c : ReplyFound k.rep
       (ca : AcknowledgeCall k.limits (acknowledge_questions k.limits (mat_state k.limits.window k.mat) body) (Ok passed)
       (acknowledging k.limits (mat_state k.limits.window k.mat) body) k.mat m) where
     pub acknowledged : (left : ReplyTable) (supply b : List ℕ) → ReplyHolds k.limits left (remove n (reply_messages k.replies))
-        → Moves k supply b b (arrive_reply n) (record { limits = k.limits; mat = m; pad = k.pad; datas = k.datas; replies = left }) (Ok (acknowledged_by passed))
+        → Moves k supply b b (arrive_reply n) (acted supply b (link_state k) (arrive_reply n)).counts.acknowledged (record { limits = k.limits; mat = m; pad = k.pad; datas = k.datas; replies = left }) (Ok passed)
     unfolding link_state
     acknowledged left supply b cl =
-        done _ _ k _ b b (acknowledged_by passed) (sym (both-asked (Ok passed) m ca)) (ap acknowledged_by (ca.answered.value ∙ ap (λ x. (made x).passed) body_is))
+        done _ _ k _ b b passed (sym (both-asked (Ok passed) m ca)) (ca.answered.value ∙ ap (λ x. (made x).passed) body_is)
         (λ i. record {
           limits = k.limits;
           mat = (ca.left ∙ ap (λ x. (made x).state) body_is) i;

@@ -5,10 +5,9 @@ use mathlib.Core.Bool.{Bool, true, false, not, ◌||◌}
 use mathlib.Core.List.{List, [], ◌∷◌, ◌++◌}
 use lib.Dec.{ltb}
 use lib.ListN.{length, get_or}
-use Rattle.limits.specs.declared.answer.Refusal.{Refusal}
 use Rattle.limits.specs.Lists.{all}
-use Rattle.std.specs.Prelude.{Result, Ok}
-use Rattle.limits.specs.Questions.{Question, ask, first_no}
+use Rattle.std.specs.Prelude.{Ok}
+use Rattle.limits.specs.Questions.{Question, Answer, ask, first_no}
 use Rattle.limits.specs.Tables.{Data, capacity, remove, no_data}
 use Rattle.limits.specs.Events.{arrive_data}
 use Rattle.limits.proofs.Laws.Choice.{pick_yes, pick_no}
@@ -21,8 +20,6 @@ use Rattle.air.specs.Rules.{place_questions}
 use Rattle.air.specs.Data.{DataTable, data_messages, DataHolds, DataFound}
 use Rattle.air.specs.Replies.{reply_messages}
 use Rattle.events.specs.declared.Link.{Link}
-use Rattle.events.specs.declared.Counts.{Counts}
-use Rattle.events.specs.State.{no_counts, unmoved}
 use Rattle.events.specs.Rules.{old_taken, new_taken, taken}
 use Rattle.events.specs.View.{link_state, Moves}
 use Rattle.events.specs.Lent.{OldTaken}
@@ -70,21 +67,21 @@ module _ (k : Link) (p : Parts k) (n : ℕ) (body : Data) (c : DataFound k.datas
       reply-is : a.reply ≡ made.reply
       reply-is = ap (λ (x : Arrival). x.reply) arrived-is
 
-      pub old-arrives : (k' : Link) (r : Result Counts Refusal) (supply b : List ℕ) → OldTaken k b n a.reply k' r → Moves k supply b b (arrive_data n) k' r
+      pub old-arrives : (k' : Link) (r : Answer) (supply b : List ℕ) → OldTaken k b n a.reply k' r → Moves k supply b b (arrive_data n) (tt {0}) k' r
       unfolding link_state
       old-arrives k' r supply b t =
-          call-as _ asked _ (unmoved (taken (link_state k) n made) b) k k' b b r
+          call-as _ asked _ (taken (link_state k) n made, b) k k' b b r
           (ap (λ x. first_no (ask 18 x ∷ [])) (sym (old-asked made.old (ltb (length (reply_messages k.replies)) capacity) (old-as ∙ o))) ∙ sym asked-behind)
-          (ap (λ x. unmoved x b) (ap (old_taken (link_state k) n) reply-is ∙ sym (pick_yes made.old _ _ _ (old-as ∙ o) refl)))
+          (ap (λ x. (x, b)) (ap (old_taken (link_state k) n) reply-is ∙ sym (pick_yes made.old _ _ _ (old-as ∙ o) refl)))
           t
 
     -- a row of the window, whose message left the table
     pub new-arrives : (pad : Pad) → sound_pad k.limits pad ≡ true → a.state ≡ pad_state k.limits.window pad → (left : DataTable)
         → DataHolds k.limits left (remove n (data_messages k.datas)) → a.old ≡ false → (supply b : List ℕ)
-        → Moves k supply b b (arrive_data n) (record { limits = k.limits; mat = k.mat; pad = pad; datas = left; replies = k.replies }) (Ok no_counts)
+        → Moves k supply b b (arrive_data n) (tt {0}) (record { limits = k.limits; mat = k.mat; pad = pad; datas = left; replies = k.replies }) (Ok tt)
     unfolding link_state
     new-arrives pad q is' left h o supply b =
-        done asked _ k _ b b no_counts
+        done asked _ k _ b b tt
         (asked-behind ∙ pick_yes _ _ _ _ (new-passes made.old (ltb (length (reply_messages k.replies)) capacity) (old-as ∙ o)) refl) refl
         (ap₂ (λ ms s. record { limits = k.limits; mat = mat_state k.limits.window k.mat; pad = s; datas = ms; replies = reply_messages k.replies }) h.1 (sym is')
         ∙ ap (λ (x : Arrival). new_taken (link_state k) n x.state) arrived-is

@@ -28,7 +28,7 @@ use Rattle.air.specs.Rules.{room_questions}
 use Rattle.air.specs.Data.{data_messages}
 use Rattle.air.specs.Replies as air
 use Rattle.events.specs.declared.Link.{Link}
-use Rattle.events.specs.State.{recorded_by}
+use Rattle.events.specs.Rules.{acted}
 use Rattle.events.specs.View.{link_state, Moves}
 use Rattle.events.proofs.Laws.Parts.{Parts, whole}
 use Rattle.events.proofs.Laws.Ends.{done}
@@ -68,10 +68,10 @@ module _ (k : Link) (p : Parts k) (before after : List ℕ)
     ≡ replying k.limits (pad_state k.limits.window k.pad) before) where
   pub replies : (into : ReplyTable) (supply : List ℕ)
       → air.ReplyHolds k.limits into (put (record { body = x; life = k.limits.replylife }) (air.reply_messages k.replies))
-      → Moves k supply before after reply (record { limits = k.limits; mat = k.mat; pad = passed; datas = k.datas; replies = into }) (Ok (recorded_by count))
+      → Moves k supply before after reply (acted supply before (link_state k) reply).counts.recorded (record { limits = k.limits; mat = k.mat; pad = passed; datas = k.datas; replies = into }) (Ok count)
   unfolding link_state
   replies into supply d =
-      done (reply_asks (pad_state k.limits.window k.pad) (length before) (air.reply_messages k.replies)) _ k _ before after _ z (ap (λ (y : Replying). recorded_by y.count) is)
+      done (reply_asks (pad_state k.limits.window k.pad) (length before) (air.reply_messages k.replies)) _ k _ before after count z (ap (λ (y : Replying). y.count) is)
       (λ i. record {
         limits = k.limits;
         mat = mat_state k.limits.window k.mat;

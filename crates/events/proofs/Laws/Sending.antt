@@ -17,7 +17,6 @@ use Rattle.air.specs.Rules.{room_questions}
 use Rattle.air.specs.Data.{DataTable, data_messages, DataHolds}
 use Rattle.air.specs.Replies.{reply_messages}
 use Rattle.events.specs.declared.Link.{Link}
-use Rattle.events.specs.declared.Counts.{Counts}
 use Rattle.events.specs.Rules.{sent_out}
 use Rattle.events.specs.View.{link_state, LinkCall}
 use Rattle.events.proofs.Laws.Parts.{Parts, whole}
@@ -25,13 +24,13 @@ use Rattle.events.proofs.Laws.Ends.{done}
 
 module _ (k : Link) (p : Parts k) (qs : List Question) (sending : Sending) (x : Data) (m : Mat) (c : SendCall k.limits qs (Ok x) sending k.mat m) where
   -- the table takes the message
-  pub sends : (into : DataTable) (counts : Counts) (b : List ℕ) → numbered qs ≡ true → ltb (length (data_messages k.datas)) capacity ≡ true
+  pub sends : (into : DataTable) (b : List ℕ) → numbered qs ≡ true → ltb (length (data_messages k.datas)) capacity ≡ true
       → DataHolds k.limits into (put (record { body = x; life = k.limits.datalife }) (data_messages k.datas))
-      → LinkCall (qs ++ room_questions 13 (data_messages k.datas)) (record { state = sent_out (link_state k) sending; counts = counts; buffer = b })
-      k b (record { limits = k.limits; mat = m; pad = k.pad; datas = into; replies = k.replies }) b (Ok counts)
+      → LinkCall (qs ++ room_questions 13 (data_messages k.datas)) (sent_out (link_state k) sending, b)
+      (tt {0}) k b (record { limits = k.limits; mat = m; pad = k.pad; datas = into; replies = k.replies }) b (Ok tt)
   unfolding link_state
-  sends into counts b n t d =
-      done _ _ k _ b b counts (sym (more-passes qs 0 c.answered.number 13 (ltb (length (data_messages k.datas)) capacity) n refl t)) refl
+  sends into b n t d =
+      done _ _ k _ b b tt (sym (more-passes qs 0 c.answered.number 13 (ltb (length (data_messages k.datas)) capacity) n refl t)) refl
       (λ i. record {
         limits = k.limits;
         mat = c.left i;

@@ -18,7 +18,6 @@ use Rattle.air.proofs.Laws.Sound.{place-passed, place-refused}
 use Rattle.air.specs.Forms.{data_form, reply_form}
 use Rattle.air.proofs.Laws.Forms.{length-messages}
 use Rattle.events.specs.declared.Link.{Link}
-use Rattle.events.specs.State.{no_counts}
 use Rattle.events.specs.View.{link_state, Moves}
 use Rattle.events.specs.Lent.{OldTaken}
 use Rattle.events.proofs.Laws.Parts.{Parts, whole}
@@ -40,29 +39,29 @@ module _ (t : ReplyTable) where
   reply-room b e = rw (length-messages reply_form t.count t.words) e
 
 module _ (k : Link) (n : ℕ) (supply b : List ℕ) where
-  pub no-data : k.datas.count ≤ n → Moves k supply b b (lose_data n) k (Err NoMessage)
+  pub no-data : k.datas.count ≤ n → Moves k supply b b (lose_data n) (tt {0}) k (Err NoMessage)
   unfolding link_state
   no-data f = refused _ _ k k b NoMessage (place-refused (data_messages k.datas) k.datas.count (length-messages data_form k.datas.count k.datas.words) n f) refl
 
-  pub no-reply : k.replies.count ≤ n → Moves k supply b b (lose_reply n) k (Err NoMessage)
+  pub no-reply : k.replies.count ≤ n → Moves k supply b b (lose_reply n) (tt {0}) k (Err NoMessage)
   unfolding link_state
   no-reply f = refused _ _ k k b NoMessage (place-refused (reply_messages k.replies) k.replies.count (length-messages reply_form k.replies.count k.replies.words) n f) refl
 
   module _ (p : Parts k) where
     pub data-lost : (t : DataTable) → n < k.datas.count → DataHolds k.limits t (remove n (data_messages k.datas))
-        → Moves k supply b b (lose_data n) (record { limits = k.limits; mat = k.mat; pad = k.pad; datas = t; replies = k.replies }) (Ok no_counts)
+        → Moves k supply b b (lose_data n) (tt {0}) (record { limits = k.limits; mat = k.mat; pad = k.pad; datas = t; replies = k.replies }) (Ok tt)
     unfolding link_state
     data-lost t f h =
-        done _ _ k _ b b no_counts (sym (place-passed (data_messages k.datas) k.datas.count (length-messages data_form k.datas.count k.datas.words) n f)) refl
+        done _ _ k _ b b tt (sym (place-passed (data_messages k.datas) k.datas.count (length-messages data_form k.datas.count k.datas.words) n f)) refl
         (ap (λ ms. record { limits = k.limits; mat = mat_state k.limits.window k.mat; pad = pad_state k.limits.window k.pad; datas = ms; replies = reply_messages k.replies }) h.1)
         refl
         (whole _ (record { limits = p.limits; mat = p.mat; pad = p.pad; datas = h.0; replies = p.replies }))
 
     pub reply-lost : (t : ReplyTable) → n < k.replies.count → ReplyHolds k.limits t (remove n (reply_messages k.replies))
-        → Moves k supply b b (lose_reply n) (record { limits = k.limits; mat = k.mat; pad = k.pad; datas = k.datas; replies = t }) (Ok no_counts)
+        → Moves k supply b b (lose_reply n) (tt {0}) (record { limits = k.limits; mat = k.mat; pad = k.pad; datas = k.datas; replies = t }) (Ok tt)
     unfolding link_state
     reply-lost t f h =
-        done _ _ k _ b b no_counts (sym (place-passed (reply_messages k.replies) k.replies.count (length-messages reply_form k.replies.count k.replies.words) n f)) refl
+        done _ _ k _ b b tt (sym (place-passed (reply_messages k.replies) k.replies.count (length-messages reply_form k.replies.count k.replies.words) n f)) refl
         (ap (λ ms. record { limits = k.limits; mat = mat_state k.limits.window k.mat; pad = pad_state k.limits.window k.pad; datas = data_messages k.datas; replies = ms }) h.1)
         refl
         (whole _ (record { limits = p.limits; mat = p.mat; pad = p.pad; datas = p.datas; replies = h.0 }))
@@ -76,10 +75,10 @@ module _ (k : Link) (n : ℕ) (x : Reply) (b : List ℕ) where
   pub old-taken : Parts k → (left : DataTable) → DataHolds k.limits left (remove n (data_messages k.datas))
       → (into : ReplyTable) → ltb (length (reply_messages k.replies)) capacity ≡ true
       → ReplyHolds k.limits into (put (record { body = x; life = k.limits.replylife }) (reply_messages k.replies))
-      → OldTaken k b n x (record { limits = k.limits; mat = k.mat; pad = k.pad; datas = left; replies = into }) (Ok no_counts)
+      → OldTaken k b n x (record { limits = k.limits; mat = k.mat; pad = k.pad; datas = left; replies = into }) (Ok tt)
   unfolding link_state
   old-taken p left h into e d =
-      done _ _ k _ b b no_counts (pick_yes _ _ _ _ e refl) refl
+      done _ _ k _ b b tt (pick_yes _ _ _ _ e refl) refl
       (ap₂ (λ ms rs. record { limits = k.limits; mat = mat_state k.limits.window k.mat; pad = pad_state k.limits.window k.pad; datas = ms; replies = rs }) h.1 d.1)
       refl
       (whole _ (record { limits = p.limits; mat = p.mat; pad = p.pad; datas = h.0; replies = d.0 }))

@@ -15,7 +15,6 @@ use Rattle.pad.specs.declared.Pad.{Pad}
 use Rattle.air.specs.Data.{DataTable, data_messages, DataHolds}
 use Rattle.air.specs.Replies.{ReplyTable, reply_messages, ReplyHolds}
 use Rattle.events.specs.declared.Link.{Link}
-use Rattle.events.specs.State.{no_counts}
 use Rattle.events.specs.View.{link_state, Moves}
 use Rattle.events.proofs.Laws.Parts.{Parts, whole}
 use Rattle.events.proofs.Laws.Ends.{done}
@@ -24,10 +23,10 @@ module _ (k : Link) (p : Parts k) (d : ℕ) (m : Mat) (q : Pad) (ds : DataTable)
   pub ticks : (mat.sound_mat k.limits m ≡ true) × (mat.mat_state k.limits.window m ≡ mat_rules.ticked d (mat.mat_state k.limits.window k.mat))
       → (pad.sound_pad k.limits q ≡ true) × (pad.pad_state k.limits.window q ≡ pad_rules.ticked d (pad.pad_state k.limits.window k.pad))
       → DataHolds k.limits ds (age d (data_messages k.datas)) → ReplyHolds k.limits rs (age d (reply_messages k.replies))
-      → (supply b : List ℕ) → Moves k supply b b (tick d) (record { limits = k.limits; mat = m; pad = q; datas = ds; replies = rs }) (Ok no_counts)
+      → (supply b : List ℕ) → Moves k supply b b (tick d) (tt {0}) (record { limits = k.limits; mat = m; pad = q; datas = ds; replies = rs }) (Ok tt)
   unfolding link_state
   ticks cm cp cd cr supply b =
-      done [] _ k _ b b no_counts refl refl
+      done [] _ k _ b b tt refl refl
       (λ i. record {
         limits = k.limits;
         mat = cm.1 i;

@@ -1,16 +1,16 @@
 -- Events one after the other: what they answer and what they leave.
-use Prim.Native.Nat.{ℕ, ◌+◌, ◌*◌}
+use Prim.Native.Nat.{ℕ, ◌*◌}
 use mathlib.Core.Path.{◌≡◌, refl, ◌∙◌, ap, ap₂}
 use mathlib.Core.Bool.{false}
 use mathlib.Core.List.{List, [], ◌∷◌, ◌++◌}
-use native.Mathlib.Omega.{arith}
 use lib.Dec.{eqb}
 use lib.ListN.{length, drop}
 use lib.Seq.{take_at, drop_at}
 use Rattle.limits.specs.Events.{Event}
 use Rattle.limits.proofs.Laws.Choice.{pick_yes, pick_no}
-use Rattle.events.specs.State.{LinkState, Moved, added, no_counts, unmoved}
+use Rattle.events.specs.State.{LinkState, Moved, added, unmoved}
 use Rattle.events.specs.Rules.{answer, acted, stepped}
+use Rattle.events.proofs.Laws.Counting.{added-none}
 use Rattle.lists.specs.Runs.{supply_left, buffer_left, continued, next, after_all, answers}
 
 -- the record is what is written and the rest behind it
@@ -56,19 +56,6 @@ module _ (supply : List ℕ) (s : LinkState) (sent acknowledged recorded : ℕ) 
       by_rests 0 m a
       (pick_yes (eqb (answer (drop (16 * sent) supply) rest s e) 0) (acted (drop (16 * sent) supply) rest s e) (unmoved s rest) m (ap (λ k. eqb k 0) a) h)
 
-  pub same-counts : added here.counts no_counts ≡ here.counts
-  same-counts =
-      λ i. record { sent = a i; acknowledged = b i; recorded = c i }
-    where
-      a : sent + 0 ≡ sent
-      a = omega arith
-
-      b : acknowledged + 0 ≡ acknowledged
-      b = omega arith
-
-      c : recorded + 0 ≡ recorded
-      c = omega arith
-
   -- a refused event leaves what it found
   pub refuses : (n : ℕ) → answer (drop (16 * sent) supply) rest s e ≡ n → eqb n 0 ≡ false → Does supply here e n here
   unfolding stepped
@@ -76,7 +63,7 @@ module _ (supply : List ℕ) (s : LinkState) (sent acknowledged recorded : ℕ) 
       leaves
       (by_rests n (unmoved s rest) a
       (pick_no (eqb (answer (drop (16 * sent) supply) rest s e) 0) (acted (drop (16 * sent) supply) rest s e) (unmoved s rest) (unmoved s rest) (ap (λ k. eqb k 0) a ∙ z) refl))
-      (ap (λ k. record { state = s; counts = k; buffer = written ++ rest }) same-counts)
+      (ap (λ k. record { state = s; counts = k; buffer = written ++ rest }) (added-none here.counts))
 
 module _ (supply : List ℕ) where
   pub record Goes (x : Moved) (es : List Event) (ns : List ℕ) (y : Moved) : Type 0 where

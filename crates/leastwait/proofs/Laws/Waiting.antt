@@ -17,7 +17,8 @@ use Rattle.mat.specs.Rules as mat
 use Rattle.events.specs.Rules.{acted}
 use Rattle.events.specs.State.{LinkState}
 use Rattle.leastwait.specs.NoShorterWait.{answer_to_tick}
-use Rattle.leastwait.proofs.Laws.Goes.{reached, Does, leaves, does, refuses, same-counts}
+use Rattle.events.proofs.Laws.Counting.{added-none}
+use Rattle.leastwait.proofs.Laws.Goes.{reached, Does, leaves, does, refuses}
 use Rattle.leastwait.proofs.Laws.Supply.{number}
 use Rattle.leastwait.proofs.Laws.Forms.{out, free, held, data_message, reply_message, link_of, last_timer, timers-fall, life-falls, free-ticked, held-ticked}
 
@@ -41,7 +42,7 @@ unfolding pick
 passes supply written rest sent acked recorded fits state d t f falls =
     on-tick (λ e n. Does supply (reached (state t f) sent acked recorded written rest) e n (reached (state (t - d) (f - d)) sent acked recorded written rest)) d
     (λ h. leaves (does supply (state t f) sent acked recorded written rest fits (tick d) _ refl refl)
-    (ap₂ (λ u k. record { state = u; counts = k; buffer = written ++ rest }) falls (same-counts supply (state t f) sent acked recorded written rest fits (tick d))))
+    (ap₂ (λ u k. record { state = u; counts = k; buffer = written ++ rest }) falls (added-none (record { sent = sent; acknowledged = acked; recorded = recorded }))))
     (λ z. leaves (refuses supply (state t f) sent acked recorded written rest fits misfit 9 refl refl)
     (ap₂ (λ u v. reached (state u v) sent acked recorded written rest) (unless-passed t d z) (unless-passed f d z)))
 

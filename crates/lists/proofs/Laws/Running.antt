@@ -10,27 +10,24 @@ use lib.Seq.{drop-cons, take-suc-set, drop-set-lt, drop-drop, length-take-le, ta
 use native.Mathlib.Numerals.{add-one}
 use borrow.Author.Tests.{eqb-false}
 use Rattle.limits.specs.Answer.{number_of}
+use Rattle.limits.specs.Questions.{Answer}
 use Rattle.limits.specs.Lists.{all}
 use Rattle.limits.proofs.Laws.Choice.{test, clash, and_left, and_right}
-use Rattle.limits.proofs.Laws.Lists.{length-tab, all_append}
+use Rattle.limits.proofs.Laws.Lists.{all_append}
 use Rattle.limits.specs.Events.{Event, event, events}
-use Rattle.mat.specs.Window.{Kept, outstanding}
-use Rattle.mat.specs.View.{outstanding_of, mark_at, cells_at, mat_state}
-use Rattle.mat.proofs.Laws.Sound.{facts}
-use Rattle.std.specs.Prelude.{Result, Ok, Err}
-use Rattle.limits.specs.declared.answer.Refusal.{Refusal}
+use Rattle.mat.specs.Window.{outstanding}
+use Rattle.std.specs.Prelude.{Ok, Err}
 use Rattle.events.specs.declared.Link.{Link}
 use Rattle.events.specs.declared.LentLink.{LentLink}
 use Rattle.events.specs.Lent.{StaysLent}
 use Rattle.events.specs.declared.Counts.{Counts}
-use Rattle.events.specs.State.{Moved, risen, added, unmoved}
+use Rattle.events.specs.State.{Moved, added, unmoved}
 use Rattle.events.specs.Rules.{stepped}
 use Rattle.lists.specs.Runs.{continued, next, after_all, answers}
-use Rattle.events.specs.View.{link_state, sound_link, Moves}
+use Rattle.events.specs.View.{link_state, sound_link, Counted, HasRoom}
 use Rattle.lists.specs.View.{refuses, running}
-use Rattle.events.proofs.Laws.Parts.{parts}
-use Rattle.events.proofs.Laws.Ends.{shows}
-use Rattle.lists.proofs.Laws.Rises.{rises-of}
+use Rattle.events.proofs.Laws.Counting.{counted-shows}
+use Rattle.events.proofs.Laws.Rises.{outstanding-fits, rises}
 
 abbrev pub reached : Link → Counts → List ℕ → Moved
 reached link counts rec = record { state = link_state link; counts = counts; buffer = rec }
@@ -60,14 +57,16 @@ pub room : (bytes supply rec₀ ans₀ : List ℕ) (k : Link) (rec ans : List �
 room bytes supply rec₀ ans₀ k rec ans link counts i g h z f =
     record { event = omega arith; answer = let s = g.same-answers in omega arith; sent = g.sent; recorded = g.recorded }
 
--- at most 32 rows are outstanding
-outstanding-fits : (k : Link) → sound_link k ≡ true → outstanding (link_state k).mat ≤ 32
-unfolding link_state mat_state
-outstanding-fits k h =
-    let p = parts k h in
-    let f = facts k.limits k.mat p.limits p.mat in
-    let n = length-tab {A = Kept} (outstanding_of k.limits.window k.mat) (λ i. record { acknowledged = mark_at k.limits.window k.mat i; cells = cells_at k.limits.window k.mat i }) in
-    omega arith
+-- the counts stay far from the end of their range
+pub has-room : (bytes supply rec₀ ans₀ : List ℕ) (k : Link) (rec ans : List ℕ) (link : Link) (counts : Counts) (i : ℕ)
+    → Going bytes supply rec₀ ans₀ k rec ans link counts i → sound_link k ≡ true → length supply < 9223372036854775808 → length rec < 9223372036854775808
+    → HasRoom counts
+has-room bytes supply rec₀ ans₀ k rec ans link counts i g s a b =
+    let o = outstanding-fits k s in
+    let sent = g.sent in
+    let recorded = g.recorded in
+    let balance = g.balance in
+    (omega arith, omega arith, omega arith)
 
 -- what stayed and stayed again
 pub lent-on : (a b c : LentLink) → StaysLent a b → StaysLent b c → StaysLent a c
@@ -77,16 +76,10 @@ lent-on a b c e f = (f.0 ∙ e.0, f.1 ∙ e.1, f.2 ∙ e.2, f.3 ∙ e.3, f.4 ∙
 not-zero : (n : ℕ) → refuses n ≡ true → eqb n 0 ≡ false
 not-zero n e = test (eqb n 0) (λ q. absurd (clash (refuses n) e (ap not q))) (λ q. q)
 
--- what an event leaves is what its rules say, done or refused
-stepped-is : (k : Link) (supply before after : List ℕ) (e : Event) (k' : Link) (r : Result Counts Refusal) → Moves k supply before after e k' r
-    → reached k' (risen r) after ≡ stepped supply before (link_state k) e
-unfolding stepped
-stepped-is k supply before after e k' r m = shows _ _ k before k' after r m
-
-refused-stays : (k : Link) (supply before after : List ℕ) (e : Event) (k' : Link) (r : Result Counts Refusal) → Moves k supply before after e k' r
-    → eqb (number_of r) 0 ≡ false → k' ≡ k
-refused-stays k supply before after e k' (Ok n) m z = absurd (eqb-false 0 0 z refl)
-refused-stays k supply before after e k' (Err x) m z = ap (λ (y : Link × List ℕ). y.0) m.kept
+refused-stays : (k : Link) (supply before after : List ℕ) (n : Counts) (e : Event) (k' : Link) (n' : Counts) (r : Answer)
+    → Counted k supply before after n e k' n' r → eqb (number_of r) 0 ≡ false → k' ≡ k
+refused-stays k supply before after n e k' n' (Ok v) m z = absurd (eqb-false 0 0 z refl)
+refused-stays k supply before after n e k' n' (Err x) m z = ap (λ (y : Link × List ℕ × Counts). y.0) m.kept
 
 -- the event at 2i, and those behind it
 pub event-at : (bytes : List ℕ) (i : ℕ) → 2 * i + 1 < length bytes
@@ -97,18 +90,25 @@ event-at bytes i h =
     ∙ ap (λ n. event (get_or bytes (2 * i) 0) (get_or bytes (2 * i + 1) 0) ∷ events (drop n bytes)) {x = suc (suc (2 * i))} {y = 2 * (i + 1)} (omega arith)
 
 module _ (bytes supply rec₀ ans₀ : List ℕ) (k : Link) (rec ans : List ℕ) (link : Link) (counts : Counts) (i : ℕ)
-    (g : Going bytes supply rec₀ ans₀ k rec ans link counts i) (h : 2 * i + 1 < length bytes) (fits : i < length ans) (link' : Link) (r : Result Counts Refusal) (after : List ℕ)
-    (m : Moves link (drop (16 * counts.sent) supply) (drop (16 * counts.recorded) rec) after (event (get_or bytes (2 * i) 0) (get_or bytes (2 * i + 1) 0)) link' r)
+    (g : Going bytes supply rec₀ ans₀ k rec ans link counts i) (h : 2 * i + 1 < length bytes) (fits : i < length ans) (link' : Link) (counts' : Counts) (r : Answer) (after : List ℕ)
+    (m : Counted link (drop (16 * counts.sent) supply) (drop (16 * counts.recorded) rec) after counts (event (get_or bytes (2 * i) 0) (get_or bytes (2 * i + 1) 0)) link' counts' r)
     (kept : length after ≡ length (drop (16 * counts.recorded) rec)) where
   abbrev here : Event
   here = event (get_or bytes (2 * i) 0) (get_or bytes (2 * i + 1) 0)
 
   abbrev later : Moved
-  later = reached link' (added counts (risen r)) (take (16 * counts.recorded) rec ++ after)
+  later = reached link' counts' (take (16 * counts.recorded) rec ++ after)
+
+  -- what the event did
+  abbrev did : Moved
+  did = stepped (drop (16 * counts.sent) supply) (drop (16 * counts.recorded) rec) (link_state link) here
+
+  did-is : reached link' counts' after ≡ record { state = did.state; counts = added counts did.counts; buffer = did.buffer }
+  did-is = counted-shows link _ _ _ counts here link' counts' r m
 
   later-is : later ≡ next supply (reached link counts rec) here
-  unfolding next continued stepped
-  later-is = ap (continued (reached link counts rec)) (stepped-is link _ _ _ here link' r m)
+  unfolding next continued
+  later-is = ap (λ (x : Moved). record { state = x.state; counts = x.counts; buffer = take (16 * counts.recorded) rec ++ x.buffer }) did-is
 
   goes_moved : after_all supply later (events (drop (2 * (i + 1)) bytes)) ≡ after_all supply (unmoved (link_state k) rec₀) (events bytes)
   unfolding after_all
@@ -145,12 +145,15 @@ module _ (bytes supply rec₀ ans₀ : List ℕ) (k : Link) (rec ans : List ℕ)
       ∙ sym (ap (all refuses) (ap (λ j. take j (set ans i n)) (add-one i) ∙ take-suc-set ans i n fits))
       ∙ e in
       let refused = not-zero n (and_left (refuses n) true (and_right (all refuses (take i ans)) (refuses n && true) both-refuse)) in
-      refused-stays link _ _ _ here link' r m refused ∙ g.still (and_left (all refuses (take i ans)) (refuses n && true) both-refuse)
+      refused-stays link _ _ _ counts here link' counts' r m refused ∙ g.still (and_left (all refuses (take i ans)) (refuses n && true) both-refuse)
 
-  pub goes : Going bytes supply rec₀ ans₀ k (take (16 * counts.recorded) rec ++ after) (set ans i (number_of r)) link' (added counts (risen r)) (i + 1)
-  unfolding stepped
+  pub goes : Going bytes supply rec₀ ans₀ k (take (16 * counts.recorded) rec ++ after) (set ans i (number_of r)) link' counts' (i + 1)
   goes =
-      let u = rises-of (drop (16 * counts.sent) supply) (drop (16 * counts.recorded) rec) (link_state link) here (reached link' (risen r) after) (stepped-is link _ _ _ here link' r m) in
+      let u = rises (drop (16 * counts.sent) supply) (drop (16 * counts.recorded) rec) (link_state link) here in
+      let sent = ap (λ (x : Moved). x.counts.sent) did-is in
+      let acknowledged = ap (λ (x : Moved). x.counts.acknowledged) did-is in
+      let recorded = ap (λ (x : Moved). x.counts.recorded) did-is in
+      let out = ap (λ (x : Moved). outstanding x.state.mat) did-is in
       let d = length-drop (16 * counts.sent) supply in
       let b = length-drop (16 * counts.recorded) rec in
       let t = length-take-le (16 * counts.recorded) rec g.recorded in
@@ -177,36 +180,25 @@ part-back : (xs ys : List ℕ) (at : ℕ) → take at xs ++ (ys ++ drop (length 
 part-back xs ys at =
     ap (take at xs ++◌) (ap (ys ++◌) (drop_of_length-le (drop at xs) {i = length xs - at} (let d = length-drop at xs in omega arith)) ∙ append-nil ys)
 
-moves-with : (link : Link) (supply supply' rec rec' after : List ℕ) (e : Event) (link' : Link) (r : Result Counts Refusal) → supply ≡ supply' → rec ≡ rec'
-    → Moves link supply rec after e link' r → Moves link supply' rec' after e link' r
-moves-with link supply supply' rec rec' after e link' r p q m = rw (← p, ← q) m
+counted-with : (link : Link) (supply supply' rec rec' after : List ℕ) (n : Counts) (e : Event) (link' : Link) (n' : Counts) (r : Answer) → supply ≡ supply' → rec ≡ rec'
+    → Counted link supply rec after n e link' n' r → Counted link supply' rec' after n e link' n' r
+counted-with link supply supply' rec rec' after n e link' n' r p q m = rw (← p, ← q) m
 
 -- a turn of the loop, on the parts that it lends
 module _ (bytes supply rec₀ ans₀ : List ℕ) (k : Link) (rec ans : List ℕ) (link : Link) (counts : Counts) (i : ℕ)
-    (g : Going bytes supply rec₀ ans₀ k rec ans link counts i) (h : 2 * i + 1 < length bytes) (fits : i < length ans) (link' : Link) (r : Result Counts Refusal) (after : List ℕ)
-    (m : Moves link (take (length supply - 16 * counts.sent) (drop (16 * counts.sent) supply)) (take (length rec - 16 * counts.recorded) (drop (16 * counts.recorded) rec))
-    after (event (get_or bytes (2 * i) 0) (get_or bytes (2 * i + 1) 0)) link' r)
+    (g : Going bytes supply rec₀ ans₀ k rec ans link counts i) (h : 2 * i + 1 < length bytes) (fits : i < length ans) (link' : Link) (counts' : Counts) (r : Answer) (after : List ℕ)
+    (m : Counted link (take (length supply - 16 * counts.sent) (drop (16 * counts.sent) supply)) (take (length rec - 16 * counts.recorded) (drop (16 * counts.recorded) rec))
+    after counts (event (get_or bytes (2 * i) 0) (get_or bytes (2 * i + 1) 0)) link' counts' r)
     (kept : length after ≡ length (take (length rec - 16 * counts.recorded) (drop (16 * counts.recorded) rec))) (n : ℕ) (is : n ≡ number_of r) where
   abbrev whole : List ℕ
   whole = take (16 * counts.recorded) rec ++ (after ++ drop (length rec - 16 * counts.recorded) (drop (16 * counts.recorded) rec))
 
-  turned : Going bytes supply rec₀ ans₀ k whole (set ans i n) link' (added counts (risen r)) (i + 1)
-  turned =
+  pub turn : Going bytes supply rec₀ ans₀ k whole (set ans i n) link' counts' (i + 1)
+  turn =
       rw (part-back rec after (16 * counts.recorded), is)
-      (goes bytes supply rec₀ ans₀ k rec ans link counts i g h fits link' r after
-      (moves-with link _ _ _ _ after (event (get_or bytes (2 * i) 0) (get_or bytes (2 * i + 1) 0)) link' r (part-rest supply (16 * counts.sent)) (part-rest rec (16 * counts.recorded)) m)
+      (goes bytes supply rec₀ ans₀ k rec ans link counts i g h fits link' counts' r after
+      (counted-with link _ _ _ _ after counts (event (get_or bytes (2 * i) 0) (get_or bytes (2 * i + 1) 0)) link' counts' r (part-rest supply (16 * counts.sent)) (part-rest rec (16 * counts.recorded)) m)
       (kept ∙ ap length (part-rest rec (16 * counts.recorded))))
-
-  pub turn : (sum : Counts) → sum ≡ added counts (risen r) → Going bytes supply rec₀ ans₀ k whole (set ans i n) link' sum (i + 1)
-  turn sum e = rw e turned
-
-  -- the counts stay far from the end of their range
-  pub counts-fit : sound_link k ≡ true → length supply + 32 < 18446744073709551616 → length rec < 18446744073709551616
-      → (counts.sent + (risen r).sent < 18446744073709551616) × (counts.acknowledged + (risen r).acknowledged < 18446744073709551616)
-      × (counts.recorded + (risen r).recorded < 18446744073709551616)
-  counts-fit s a b =
-      let t = turned in let o = outstanding-fits k s in
-      (let q = t.sent in omega arith, let q = t.balance in let q' = t.sent in omega arith, let q = t.recorded in let q' = t.same-record in let q'' = g.same-record in omega arith)
 
 -- the loop's end
 pub finishes : (bytes supply rec₀ ans₀ : List ℕ) (k : Link) (rec ans : List ℕ) (link : Link) (counts : Counts) (i : ℕ) → length bytes % 2 ≡ 0 → i ≡ length bytes / 2

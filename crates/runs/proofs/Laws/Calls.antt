@@ -19,12 +19,13 @@ use Rattle.limits.proofs.Laws.Promise.{refusal-not-0, changed-handed_on}
 use Rattle.limits.proofs.Laws.Questions.{each}
 use Rattle.events.specs.declared.Link.{Link}
 use Rattle.events.specs.declared.Counts.{Counts}
-use Rattle.events.specs.State.{risen, unmoved}
+use Rattle.events.specs.State.{no_counts, risen, unmoved}
 use Rattle.events.specs.Rules.{questions}
-use Rattle.events.specs.View.{link_state, sound_link, Moves}
+use Rattle.events.specs.View.{link_state, sound_link, Counted}
 use Rattle.lists.specs.View.{Run, refuses, running}
 use Rattle.runs.specs.View.{Stepped, RunCall, Ran, whole_rows, lent_asks, lent_questions}
 use Rattle.events.proofs.Laws.Ends.{refused, call-as}
+use Rattle.events.proofs.Laws.Counting.{counted-done, counted-refused}
 
 -- a question that is answered no, and one that is passed, in front of others
 no-first : (code : ℕ) (b : Bool) (qs : List Question) → b ≡ false → code ≡ first_no (ask code b ∷ qs)
@@ -46,12 +47,21 @@ module _ (k : Link) (kind argument : ℕ) (supply before : List ℕ) where
         refused _ _ k k before PartialRow
         (no-later 4 (sound_link k) (whole_rows supply ++ own) 6 e (no-first 6 (eqb (length supply % 16) 0) own (ne_eqb (length supply % 16) 0 n))) refl
 
-    pub step-asked : (after : List ℕ) (k' : Link) (r : Result Counts Refusal) → length supply % 16 ≡ 0
-        → Moves k supply before after (event kind argument) k' r → Stepped k kind argument supply before after k' r
-    step-asked after k' r z m =
-        call-as own (ask 4 (sound_link k) ∷ (whole_rows supply ++ own)) _ _ k k' before after r
-        (no-later 4 (sound_link k) (whole_rows supply ++ own) _ e (no-later 6 (eqb (length supply % 16) 0) own _ (eq-eqb (length supply % 16) 0 z) refl))
-        refl m
+    -- the event's own questions behind 4 and 6
+    module _ (z : length supply % 16 ≡ 0) (after : List ℕ) (k' : Link) (n n' : Counts) (none : n ≡ no_counts) where
+      both-passed : first_no own ≡ first_no (ask 4 (sound_link k) ∷ (whole_rows supply ++ own))
+      both-passed = no-later 4 (sound_link k) (whole_rows supply ++ own) _ e (no-later 6 (eqb (length supply % 16) 0) own _ (eq-eqb (length supply % 16) 0 z) refl)
+
+      pub step-done : Counted k supply before after n (event kind argument) k' n' (Ok tt) → Stepped k kind argument supply before after k' (Ok n')
+      step-done c =
+          call-as own (ask 4 (sound_link k) ∷ (whole_rows supply ++ own)) _ _ k k' before after (Ok n') both-passed refl
+          (counted-done k supply before after (event kind argument) k' n n' none c)
+
+      pub step-refused : (r : Result Counts Refusal) (x : Refusal) → IsErrAnd r (λ y. y ≡ x)
+          → Counted k supply before after n (event kind argument) k' n' (Err x) → Stepped k kind argument supply before after k' r
+      step-refused r x i c =
+          call-as own (ask 4 (sound_link k) ∷ (whole_rows supply ++ own)) _ _ k k' before after r both-passed refl
+          (counted-refused k supply before after (event kind argument) k' n n' r x i c)
 
 module _ (k : Link) (bytes supply before answers : List ℕ) where
   abbrev asked : List Question

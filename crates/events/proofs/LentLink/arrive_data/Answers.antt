@@ -21,7 +21,7 @@ use Rattle.air.proofs.Laws.Forms.{count-few}
 use Rattle.events.specs.View.{link_state}
 use Rattle.events.specs.Lent.{lent_link}
 use Rattle.events.proofs.Laws.Parts.{parts}
-use Rattle.events.proofs.Laws.Ends.{handed_on, zeros}
+use Rattle.events.proofs.Laws.Ends.{handed_on}
 use Rattle.events.proofs.Laws.Messages.{there, found-sound}
 use Rattle.events.proofs.Laws.Tables.{data-below}
 use Rattle.events.proofs.Laws.Arriving.{old-arrives, new-arrives}
@@ -58,5 +58,4 @@ remove-requires c = let k = lent_link c.args.self.now in let u = c.in_ok-data in
 pub returns-clause-moves : goal.returns-clause-moves
 unfolding pad_state pick
 returns-clause-moves c = λ supply b. let k = lent_link c.args.self.now in let p = parts k c.requires in let u = c.in_ok-data in let held = with-number k.limits k.pad.wanted _ _ refl c.hold.ensures.moves in
-    rw (zeros _ c.default.ensures)
-    (new-arrives k p _ u.data u.ensures _ (arrival-new k.limits k.pad _ _ (sym c.if-not-in_window.ensures) held.1) _ held.0 refl _ (c.remove.ensures.removed k.limits p.datas) refl supply b)
+    new-arrives k p _ u.data u.ensures _ (arrival-new k.limits k.pad _ _ (sym c.if-not-in_window.ensures) held.1) _ held.0 refl _ (c.remove.ensures.removed k.limits p.datas) refl supply b

@@ -2,7 +2,6 @@ use native.Mathlib.Omega.{arith}
 use Rattle.air.specs.Forms.{data_form}
 use Rattle.air.proofs.Laws.Forms.{count-few}
 use Rattle.events.proofs.Laws.Parts.{parts}
-use Rattle.events.proofs.Laws.Ends.{zeros}
 use Rattle.events.proofs.Laws.Tables.{data-lost, no-data}
 use Rattle.events.proofs.LentLink.lose_data.Goals as goal
 
@@ -14,4 +13,4 @@ remove-requires c = (omega arith, (c.if-self-p.false, count-few data_form _ _ _ 
 
 pub returns-clause-moves : goal.returns-clause-moves
 returns-clause-moves c = λ supply b. let p = parts _ c.requires in
-    rw (zeros _ c.default.ensures) (data-lost _ c.args.p supply b p _ c.if-self-p.false (c.remove.ensures.removed c.args.self.now.limits p.datas))
+    data-lost _ c.args.p supply b p _ c.if-self-p.false (c.remove.ensures.removed c.args.self.now.limits p.datas)

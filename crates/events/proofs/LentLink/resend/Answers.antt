@@ -12,11 +12,10 @@ use Rattle.mat.proofs.Laws.Messages.{resending-sound}
 use Rattle.air.specs.Laws.{data_laws}
 use Rattle.air.specs.Rules.{room_questions}
 use Rattle.air.specs.Data.{data_messages}
-use Rattle.events.specs.State.{no_counts}
 use Rattle.events.specs.View.{link_state}
 use Rattle.events.specs.Lent.{lent_link}
 use Rattle.events.proofs.Laws.Parts.{parts}
-use Rattle.events.proofs.Laws.Ends.{refused, handed_on, zeros}
+use Rattle.events.proofs.Laws.Ends.{refused, handed_on}
 use Rattle.events.proofs.Laws.Tables.{data-room}
 use Rattle.events.proofs.Laws.Sending.{sends}
 use Rattle.events.proofs.LentLink.resend.Goals as goal
@@ -52,5 +51,4 @@ returns-clause-moves c = λ supply b. let k = lent_link c.args.self.now in let p
     let e = c.in_ok-number.ensures in
     let v = resend-done k.limits k.mat c.args.k _ e _ _ (c.again-again.ensures.resends c.args.k (due-there k.limits k.mat c.args.k _ e) e.value) in
     let sound = ap (sound_data k.limits) v.answered.value ∙ resending-sound k.limits k.mat p.limits p.mat c.args.k (sym v.answered.number) in
-    rw (zeros _ c.default.ensures)
-    (sends k p _ _ _ _ (rw (c.again-again.ensures.stays.0, c.again-again.ensures.stays.1) at v) _ no_counts b refl (data-room k.datas _ (sym c.if-not-has_room.ensures)) (c.put.ensures.put p.datas sound))
+    sends k p _ _ _ _ (rw (c.again-again.ensures.stays.0, c.again-again.ensures.stays.1) at v) _ b refl (data-room k.datas _ (sym c.if-not-has_room.ensures)) (c.put.ensures.put p.datas sound)

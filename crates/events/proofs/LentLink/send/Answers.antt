@@ -2,6 +2,7 @@ use native.Mathlib.Omega.{arith}
 use mathlib.Core.Path.{refl, sym, ◌∙◌, ap}
 use borrow.Author.Tests.{ltb-true}
 use Rattle.limits.specs.Lists.{all}
+use Rattle.limits.specs.Events.{send}
 use Rattle.limits.specs.Tables.{sound_data}
 use Rattle.limits.proofs.Laws.Promise.{refusal-not-0}
 use Rattle.limits.proofs.Laws.Questions.{more_stays, more-fails}
@@ -11,43 +12,43 @@ use Rattle.mat.proofs.Laws.Messages.{sending-sound}
 use Rattle.air.specs.Laws.{data_laws}
 use Rattle.air.specs.Rules.{room_questions}
 use Rattle.air.specs.Data.{data_messages}
-use Rattle.events.specs.State.{one_sent}
 use Rattle.events.specs.View.{link_state}
 use Rattle.events.specs.Lent.{lent_link}
 use Rattle.events.proofs.Laws.Parts.{parts}
-use Rattle.events.proofs.Laws.Ends.{refused, handed_on}
+use Rattle.events.proofs.Laws.Counting.{counts-are, counted, refused-counted, handed-counted}
 use Rattle.events.proofs.Laws.Tables.{data-room}
 use Rattle.events.proofs.Laws.Sending.{sends}
 use Rattle.events.proofs.LentLink.send.Goals as goal
 
 pub next_row-requires : goal.next_row-requires
-next_row-requires c = let p = parts _ c.requires in (p.limits, p.mat)
+next_row-requires c = let p = parts _ c.requires.0 in (p.limits, p.mat)
 
-pub returns-in_err-row-clause-moves : goal.returns-in_err-row-clause-moves
+pub returns-in_err-row-clause-counted : goal.returns-in_err-row-clause-counted
 unfolding link_state
-returns-in_err-row-clause-moves c = λ b. let k = lent_link c.args.self.now in
-    handed_on _ _ k k b _ _ c.from_residual.ensures.1
+returns-in_err-row-clause-counted c = λ b. let k = lent_link c.args.self.now in
+    handed-counted k k c.args.supply.now b send _ _ _ c.from_residual.ensures.1
     (more_stays (send_questions k.limits (mat_state k.limits.window k.mat) c.args.supply.now) _ c.in_err-row.ensures.number (room_questions 13 (data_messages k.datas)) (refusal-not-0 _)) refl
 
-pub returns-then-not-has_room-clause-moves : goal.returns-then-not-has_room-clause-moves
+pub returns-then-not-has_room-clause-counted : goal.returns-then-not-has_room-clause-counted
 unfolding link_state all
-returns-then-not-has_room-clause-moves c = λ b. let k = lent_link c.args.self.now in
-    refused _ _ k k b _
+returns-then-not-has_room-clause-counted c = λ b. let k = lent_link c.args.self.now in
+    refused-counted k k c.args.supply.now b send _ _
     (more-fails (send_questions k.limits (mat_state k.limits.window k.mat) c.args.supply.now) _ c.in_ok-row.ensures.number 13 _ refl refl (data-room k.datas _ (sym c.if-not-has_room.ensures))) refl
 
 pub keep-data-requires : goal.keep-data-requires
-keep-data-requires c = let p = parts _ c.requires in (p.limits, p.mat)
+keep-data-requires c = let p = parts _ c.requires.0 in (p.limits, p.mat)
 
 pub put-requires : goal.put-requires
-put-requires c = let k = lent_link c.args.self.now in let p = parts k c.requires in
+put-requires c = let k = lent_link c.args.self.now in let p = parts k c.requires.0 in
     let v = c.keep-data.ensures.sends c.args.supply.now c.in_ok-row.ensures in
     let sound = ap (sound_data k.limits) v.answered.value ∙ sending-sound k.limits k.mat p.limits p.mat c.args.supply.now (sym v.answered.number) in
     (omega arith, (p.limits, ltb-true k.datas.count 32 (sym c.if-not-has_room.ensures), data_laws.sound_fits k.limits _ p.limits sound))
 
-pub returns-clause-moves : goal.returns-clause-moves
+pub returns-clause-counted : goal.returns-clause-counted
 unfolding link_state all
-returns-clause-moves c = λ b. let k = lent_link c.args.self.now in let p = parts k c.requires in
+returns-clause-counted c = λ b. let k = lent_link c.args.self.now in let p = parts k c.requires.0 in
     let v = c.keep-data.ensures.sends c.args.supply.now c.in_ok-row.ensures in
     let sound = ap (sound_data k.limits) v.answered.value ∙ sending-sound k.limits k.mat p.limits p.mat c.args.supply.now (sym v.answered.number) in
-    rw (c.default.ensures.1.0, c.default.ensures.1.1)
-    (sends k p _ _ _ _ (rw c.keep-data.ensures.stays at v) _ one_sent b refl (data-room k.datas _ (sym c.if-not-has_room.ensures)) (c.put.ensures.put p.datas sound))
+    counted k c.args.supply.now b b send (tt {0}) _ _ _ _
+    (sends k p _ _ _ _ (rw c.keep-data.ensures.stays at v) _ b refl (data-room k.datas _ (sym c.if-not-has_room.ensures)) (c.put.ensures.put p.datas sound))
+    (λ e. counts-are _ _ refl (omega arith) (omega arith))

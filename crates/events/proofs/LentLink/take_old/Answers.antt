@@ -7,7 +7,6 @@ use Rattle.air.specs.Forms.{data_form}
 use Rattle.air.proofs.Laws.Forms.{count-few}
 use Rattle.events.specs.Lent.{lent_link}
 use Rattle.events.proofs.Laws.Parts.{parts}
-use Rattle.events.proofs.Laws.Ends.{zeros}
 use Rattle.events.proofs.Laws.Tables.{reply-room, old-taken, old-refused}
 use Rattle.events.proofs.LentLink.take_old.Goals as goal
 
@@ -23,5 +22,4 @@ remove-requires c = (omega arith, (c.requires.1, count-few data_form _ _ _ (part
 
 pub returns-clause-moves : goal.returns-clause-moves
 returns-clause-moves c = λ b. let k = lent_link c.args.self.now in let p = parts k c.requires.0 in
-    rw (zeros _ c.default.ensures)
-    (old-taken k c.args.p _ b p _ (c.remove.ensures.removed k.limits p.datas) _ (reply-room k.replies _ (sym c.if-not-has_room.ensures)) (c.put.ensures.put p.replies (single-sound _ p.limits c.args.number c.requires.2)))
+    old-taken k c.args.p _ b p _ (c.remove.ensures.removed k.limits p.datas) _ (reply-room k.replies _ (sym c.if-not-has_room.ensures)) (c.put.ensures.put p.replies (single-sound _ p.limits c.args.number c.requires.2))

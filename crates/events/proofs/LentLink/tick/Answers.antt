@@ -7,7 +7,6 @@ use Rattle.pad.specs.Rules.{ticked}
 use Rattle.pad.specs.View.{pad_state}
 use Rattle.pad.proofs.Laws.Calls.{with-number}
 use Rattle.events.proofs.Laws.Parts.{parts}
-use Rattle.events.proofs.Laws.Ends.{zeros}
 use Rattle.events.proofs.Laws.Ticking.{ticks}
 use Rattle.events.proofs.LentLink.tick.Goals as goal
 
@@ -26,5 +25,4 @@ age-requires-2 c = (omega arith, count-few reply_form _ _ _ (parts _ c.requires)
 pub returns-clause-moves : goal.returns-clause-moves
 unfolding pad_state ticked
 returns-clause-moves c = λ supply b. let k = lent_link c.args.self.now in let p = parts k c.requires in
-    rw (zeros _ c.default.ensures)
-    (ticks k p _ _ _ _ _ (rw (c.tick.ensures.stays.0, c.tick.ensures.stays.1) at c.tick.ensures.ticks) (with-number k.limits k.pad.wanted _ _ refl c.tick-2.ensures.moves) (c.age.ensures.aged k.limits p.datas) (c.age-2.ensures.aged k.limits p.replies) supply b)
+    ticks k p _ _ _ _ _ (rw (c.tick.ensures.stays.0, c.tick.ensures.stays.1) at c.tick.ensures.ticks) (with-number k.limits k.pad.wanted _ _ refl c.tick-2.ensures.moves) (c.age.ensures.aged k.limits p.datas) (c.age-2.ensures.aged k.limits p.replies) supply b

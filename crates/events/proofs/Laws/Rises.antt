@@ -2,7 +2,7 @@
 -- rows acknowledged were outstanding.
 use Prim.Native.Nat.{ℕ, ◌+◌, ◌*◌, ◌≤◌}
 use mathlib.Core.Path.{◌≡◌, refl, ap}
-use mathlib.Core.Bool.{false}
+use mathlib.Core.Bool.{true, false}
 use mathlib.Core.List.{List, [], ◌∷◌}
 use native.Mathlib.Omega.{arith}
 use lib.Dec.{eqb}
@@ -11,16 +11,21 @@ use borrow.Author.Tests.{eqb-true, leb-true}
 use Rattle.limits.specs.Lists.{all, leading}
 use Rattle.limits.specs.Questions.{first_no}
 use Rattle.limits.specs.Events.{Event, unknown, misfit, send, resend, arrive_data, reply, arrive_reply, lose_data, lose_reply, tick}
-use Rattle.limits.specs.Tables.{span}
+use Rattle.limits.specs.Tables.{Reply, span}
 use Rattle.limits.proofs.Laws.Choice.{pick-cases}
 use Rattle.limits.proofs.Laws.Lists.{length-tab, leading-most}
 use Rattle.limits.proofs.Laws.Questions.{each, front-passed}
 use Rattle.mat.specs.Window.{Kept, outstanding}
+use Rattle.mat.specs.View.{outstanding_of, mark_at, cells_at, mat_state}
 use Rattle.mat.specs.Rules as mat
+use Rattle.mat.proofs.Laws.Sound.{facts}
 use Rattle.pad.specs.Rules as pad
 use Rattle.air.specs.Rules.{room_questions}
+use Rattle.events.specs.declared.Link.{Link}
 use Rattle.events.specs.State.{LinkState, Moved, unmoved}
 use Rattle.events.specs.Rules.{arrival_at, old_taken, new_taken, taken, questions, acted, answer, stepped, reply_at}
+use Rattle.events.specs.View.{link_state, sound_link}
+use Rattle.events.proofs.Laws.Parts.{parts}
 
 pub record Rises (supply buffer : List ℕ) (s : LinkState) (x : Moved) : Type 0 where
   pub sent : 16 * x.counts.sent ≤ length supply
@@ -29,6 +34,15 @@ pub record Rises (supply buffer : List ℕ) (s : LinkState) (x : Moved) : Type 0
 
 unmoved-rises : (supply buffer : List ℕ) (s t : LinkState) → outstanding t.mat ≡ outstanding s.mat → Rises supply buffer s (unmoved t buffer)
 unmoved-rises supply buffer s t e = record { sent = omega arith; recorded = omega arith; balance = ap (0 +◌) e }
+
+-- at most 32 rows are outstanding
+pub outstanding-fits : (k : Link) → sound_link k ≡ true → outstanding (link_state k).mat ≤ 32
+unfolding link_state mat_state
+outstanding-fits k h =
+    let p = parts k h in
+    let f = facts k.limits k.mat p.limits p.mat in
+    let n = length-tab {A = Kept} (outstanding_of k.limits.window k.mat) (λ i. record { acknowledged = mark_at k.limits.window k.mat i; cells = cells_at k.limits.window k.mat i }) in
+    omega arith
 
 module _ (supply buffer : List ℕ) (s : LinkState) where
   send-rises : first_no (questions supply (length buffer) s send) ≡ 0 → Rises supply buffer s (acted supply buffer s send)
@@ -50,7 +64,7 @@ module _ (supply buffer : List ℕ) (s : LinkState) where
       let a = leb-true (16 * pad.run s.pad) (length buffer) q.1.0 in
       record { sent = omega arith; recorded = omega arith; balance = refl }
 
-  passing-balance : (from count : ℕ) → (mat.passing s.limits s.mat from count).passed + outstanding (mat.passing s.limits s.mat from count).state ≡ outstanding s.mat
+  pub passing-balance : (from count : ℕ) → (mat.passing s.limits s.mat from count).passed + outstanding (mat.passing s.limits s.mat from count).state ≡ outstanding s.mat
   unfolding mat.passing mat.marked
   passing-balance from count =
       let rows = mat.marked from count s.mat in
@@ -87,5 +101,11 @@ module _ (supply buffer : List ℕ) (s : LinkState) where
       (λ z. acted-rises e (eqb-true (answer supply buffer s e) 0 z))
       (λ z. unmoved-rises supply buffer s s refl)
 
-  pub rises-of : (e : Event) (x : Moved) → x ≡ stepped supply buffer s e → Rises supply buffer s x
-  rises-of e x q = rw q (rises e)
+-- no reply acknowledges more than 32 rows
+pub acknowledged-few : (k : Link) → sound_link k ≡ true → (x : Reply) (n : ℕ) → n ≡ (mat.acknowledging k.limits (mat_state k.limits.window k.mat) x).passed → n ≤ 32
+unfolding link_state
+acknowledged-few k sound x n e =
+    let s = link_state k in
+    let b = passing-balance [] [] s (mat.start_of s.limits s.mat x) (span s.limits.window x) in
+    let o = outstanding-fits k sound in
+    omega arith
