@@ -14,7 +14,7 @@
 
 static struct matlink ends;                   /* 3668 bytes, so not on the stack */
 static uint16_t supply[CELLS], record[CELLS]; /* the rows to send, and the rows that came over */
-static struct matlink_counts total;           /* the rows sent, acknowledged and recorded so far */
+static struct matlink_counts total;           /* what was counted so far */
 
 static void must(int good, const char *what) {
     printf("%s%s\n", good ? "" : "NOT SO: ", what);
@@ -27,15 +27,27 @@ static void answered(const char *what, uint8_t answer, uint8_t expected) {
     if (answer != expected) must(0, matlink_answer_text(expected));
 }
 
+static void add(struct matlink_counts *sum, const struct matlink_counts *more) {
+    sum->sent += more->sent;
+    sum->acknowledged += more->acknowledged;
+    sum->recorded += more->recorded;
+    sum->data_put += more->data_put;
+    sum->data_arrived += more->data_arrived;
+    sum->data_lost += more->data_lost;
+    sum->data_dropped += more->data_dropped;
+    sum->reply_put += more->reply_put;
+    sum->reply_arrived += more->reply_arrived;
+    sum->reply_lost += more->reply_lost;
+    sum->reply_dropped += more->reply_dropped;
+}
+
 /* One event. It is handed the rows that were not sent yet and the part of the record that was not written yet. */
 static void event(const char *what, uint32_t kind, uint32_t argument, uint8_t expected) {
     size_t sent = (size_t)total.sent * MATLINK_ROW_CELLS, recorded = (size_t)total.recorded * MATLINK_ROW_CELLS;
-    struct matlink_counts rise;
-    answered(what, matlink_step(&ends, kind, argument, supply + sent, CELLS - sent, record + recorded, CELLS - recorded, &rise),
+    struct matlink_counts counts;
+    answered(what, matlink_step(&ends, kind, argument, supply + sent, CELLS - sent, record + recorded, CELLS - recorded, &counts),
              expected);
-    total.sent += rise.sent;
-    total.acknowledged += rise.acknowledged;
-    total.recorded += rise.recorded;
+    add(&total, &counts);
 }
 
 /* Message p of a table goes by radio: it is written as a frame from where it stands in the link, read and compared. */
@@ -78,6 +90,7 @@ int main(void) {
     radio(MATLINK_REPLY_FRAME, 0);
     event("reply arrives", MATLINK_ARRIVE_REPLY, 0, MATLINK_DONE);
     must(total.sent == ROWS && total.recorded == ROWS && total.acknowledged == ROWS, "every row was sent, recorded, acknowledged");
+    must(total.data_put == 4 && total.data_arrived == 3 && total.data_lost == 1, "of four data messages one was lost");
     must(memcmp(record, supply, sizeof record) == 0, "the record is the supply");
     return 0;
 }

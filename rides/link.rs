@@ -77,6 +77,52 @@ pub fn page(record: &[u16], page: u64) -> Result<String, u8> {
     }
 }
 
+/// The messages of one table: how many were put in the air, arrived, were lost, and were dropped by age.
+#[derive(Clone, Copy, Default, PartialEq)]
+pub struct Account {
+    pub put: usize,
+    pub arrived: usize,
+    pub lost: usize,
+    pub dropped: usize,
+}
+
+/// Numbers of `struct matlink_counts`.
+const COUNTS: usize = 11;
+
+/// The counts of rows sent, acknowledged and recorded, and the accounts of data messages and replies.
+#[derive(Clone, Copy, Default)]
+pub struct Counts {
+    pub rows: [usize; 3],
+    pub data: Account,
+    pub replies: Account,
+}
+
+impl Counts {
+    fn of(numbers: [usize; COUNTS]) -> Counts {
+        let [sent, acknowledged, recorded, data @ .., put, arrived, lost, dropped] = numbers;
+        let replies = Account { put, arrived, lost, dropped };
+        let [put, arrived, lost, dropped] = data;
+        Counts { rows: [sent, acknowledged, recorded], data: Account { put, arrived, lost, dropped }, replies }
+    }
+
+    pub fn add(&mut self, more: Counts) {
+        for (count, more) in self.rows.iter_mut().zip(more.rows) {
+            *count += more;
+        }
+        self.data.add(more.data);
+        self.replies.add(more.replies);
+    }
+}
+
+impl Account {
+    fn add(&mut self, more: Account) {
+        self.put += more.put;
+        self.arrived += more.arrived;
+        self.lost += more.lost;
+        self.dropped += more.dropped;
+    }
+}
+
 /// The members of `struct matlink`. The single numbers stand in `head`, in their order.
 #[derive(Clone)]
 pub struct Link {
@@ -132,9 +178,9 @@ impl Link {
         }
     }
 
-    /// The answer to one event, and by how many rows it raised what was sent, acknowledged and recorded.
-    pub fn step(&mut self, kind: u8, argument: u8, supply: &[u16], record: &mut [u16]) -> (u8, [usize; 3]) {
-        let mut counts = [0; 3];
+    /// The answer to one event, and what it adds to the counts.
+    pub fn step(&mut self, kind: u8, argument: u8, supply: &[u16], record: &mut [u16]) -> (u8, Counts) {
+        let mut counts = [0; COUNTS];
         // SAFETY: as in `open`; supply and record are slices with their own counts.
         let answer = unsafe {
             matlink_lent_step(
@@ -156,7 +202,7 @@ impl Link {
                 counts.as_mut_ptr(),
             )
         };
-        (answer, counts)
+        (answer, Counts::of(counts))
     }
 
     pub fn limits(&self) -> [u16; 5] {

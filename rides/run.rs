@@ -4,7 +4,7 @@
 //! recorded, and for each message in the air there is one in a list of the program's own. After each event the lists are
 //! compared with the link's tables.
 
-use crate::link::{Link, CELLS};
+use crate::link::{Account, Counts, Link, CELLS};
 use crate::text::{Event, Ride};
 
 #[derive(Clone, Copy, PartialEq)]
@@ -61,7 +61,7 @@ pub struct Run {
     link: Link,
     supply: Vec<u16>,
     record: Vec<u16>,
-    counts: [usize; 3],
+    counts: Counts,
     data: Vec<usize>,
     replies: Vec<usize>,
     pub messages: Vec<Message>,
@@ -77,7 +77,7 @@ pub fn run(ride: &Ride) -> Result<Result<Run, u8>, String> {
     };
     let supply = ride.cells.clone();
     let record = vec![0; supply.len()];
-    let (counts, data, replies, messages, steps) = ([0; 3], vec![], vec![], vec![], vec![]);
+    let (counts, data, replies, messages, steps) = (Counts::default(), vec![], vec![], vec![], vec![]);
     let mut run = Run { link, supply, record, counts, data, replies, messages, steps };
     for event in &ride.events {
         run.put(event).map_err(|why| format!("line {}: {why}", event.line))?;
@@ -94,20 +94,29 @@ impl Run {
         2 * self.link.window()
     }
 
+    /// The counts of rows sent, acknowledged and recorded.
     pub fn counts(&self) -> [usize; 3] {
-        self.counts
+        self.counts.rows
+    }
+
+    /// The account of a table, and how many of its messages are left in the air.
+    pub fn account(&self, kind: Kind) -> (Account, usize) {
+        match kind {
+            Kind::Data => (self.counts.data, self.data.len()),
+            Kind::Reply => (self.counts.replies, self.replies.len()),
+        }
     }
 
     /// The rows recorded.
     pub fn recorded(&self) -> &[u16] {
-        &self.record[..self.counts[2] * CELLS]
+        &self.record[..self.counts.rows[2] * CELLS]
     }
 
     fn put(&mut self, event: &Event) -> Result<(), String> {
-        let (before, counts) = (self.link.clone(), self.counts);
+        let (before, counts) = (self.link.clone(), self.counts.rows);
         let [sent, _, recorded] = counts.map(|count| count * CELLS);
-        let (answer, rises) = self.link.step(event.kind, event.argument, &self.supply[sent..], &mut self.record[recorded..]);
-        self.counts = std::array::from_fn(|at| counts[at] + rises[at]);
+        let (answer, more) = self.link.step(event.kind, event.argument, &self.supply[sent..], &mut self.record[recorded..]);
+        self.counts.add(more);
         let fact = if answer == 0 { self.fact(event, &before, counts)? } else { Fact::Refused(answer) };
         self.check()?;
         let state = self.state();
@@ -122,8 +131,8 @@ impl Run {
             1 => Ok(Fact::Sent { message: self.add(Kind::Data, sent, sent), again: false }),
             2 => Ok(Fact::Sent { message: self.add(Kind::Data, acknowledged + place, acknowledged + place), again: true }),
             3 => self.arrival(place, before),
-            4 if self.counts[2] == recorded => Err("a reply is answered with 0, and no row is recorded".to_string()),
-            4 => Ok(Fact::Recorded { reply: self.add(Kind::Reply, recorded, self.counts[2] - 1) }),
+            4 if self.counts.rows[2] == recorded => Err("a reply is answered with 0, and no row is recorded".to_string()),
+            4 => Ok(Fact::Recorded { reply: self.add(Kind::Reply, recorded, self.counts.rows[2] - 1) }),
             5 => self.acknowledgment(place, before, counts),
             6 => Ok(Fact::Lost { message: self.leave(Kind::Data, place, End::Lost)? }),
             7 => Ok(Fact::Lost { message: self.leave(Kind::Reply, place, End::Lost)? }),
@@ -169,7 +178,7 @@ impl Run {
             return Ok(Fact::Old { message, reply: self.add(Kind::Reply, row, row) });
         }
         let (held, timer, cells) = self.link.held(row);
-        let (recorded, reply_wait) = (self.counts[2], self.limits()[3]);
+        let (recorded, reply_wait) = (self.counts.rows[2], self.limits()[3]);
         let awaited = (recorded..recorded + self.link.window()).contains(&row);
         if !held || !awaited || timer != reply_wait || self.row(row) != Some(cells) {
             return Err(format!("row {row} arrives, and the link neither answers it nor holds it as that row"));
@@ -180,7 +189,7 @@ impl Run {
     /// The rows that were outstanding without an acknowledgment and now have one, or are no longer outstanding.
     fn acknowledgment(&mut self, place: usize, before: &Link, counts: [usize; 3]) -> Result<Fact, String> {
         let reply = self.leave(Kind::Reply, place, End::Arrived)?;
-        let now = |row: usize| row < self.counts[1] || self.link.kept(row).0;
+        let now = |row: usize| row < self.counts.rows[1] || self.link.kept(row).0;
         let rows = (counts[1]..counts[0]).filter(|row| !before.kept(*row).0 && now(*row)).collect();
         Ok(Fact::Acknowledged { reply, rows })
     }
@@ -194,7 +203,7 @@ impl Run {
             }
         }
         died.sort();
-        let [sent, acknowledged, recorded] = self.counts;
+        let [sent, acknowledged, recorded] = self.counts.rows;
         let ran_out = |row: &usize| !before.kept(*row).0 && before.kept(*row).1 > 0 && self.link.kept(*row).1 == 0;
         let late = |row: &usize| before.held(*row).0 && before.held(*row).1 > 0 && self.link.held(*row).1 == 0;
         let may_resend = (acknowledged..sent).filter(ran_out).collect();
@@ -218,9 +227,14 @@ impl Run {
         if !self.data.iter().zip(&data).all(same_data) || !self.replies.iter().zip(&replies).all(same_reply) {
             return Err("the link shows other messages in the air than the events amount to".to_string());
         }
-        let [sent, acknowledged, recorded] = self.counts;
+        let [sent, acknowledged, recorded] = self.counts.rows;
         if self.link.numbers() != [acknowledged, sent, recorded].map(|count| count % ring) {
             return Err("the link's numbers are not its counts modulo 2w".to_string());
+        }
+        for kind in [Kind::Data, Kind::Reply] {
+            if self.account(kind).0 != self.own_account(kind) {
+                return Err("the link's account of the air is not that of the events".to_string());
+            }
         }
         let (all, part) = (self.supply.len(), recorded * CELLS);
         if sent * CELLS > all || part > all || self.record[..part] != self.supply[..part] {
@@ -229,12 +243,19 @@ impl Run {
         Ok(())
     }
 
+    /// The account by the program's own messages.
+    fn own_account(&self, kind: Kind) -> Account {
+        let all: Vec<&Message> = self.messages.iter().filter(|message| message.kind == kind).collect();
+        let by = |end: End| all.iter().filter(|message| message.end.is_some_and(|(_, how)| how == end)).count();
+        Account { put: all.len(), arrived: by(End::Arrived), lost: by(End::Lost), dropped: by(End::Died) }
+    }
+
     fn state(&self) -> State {
-        let [sent, acknowledged, recorded] = self.counts;
+        let [sent, acknowledged, recorded] = self.counts.rows;
         let span = |m: &usize| (self.messages[*m].first, self.messages[*m].last);
         let held = |row: usize| self.link.held(row).0.then(|| (row, self.link.held(row).1 == 0));
         State {
-            counts: self.counts,
+            counts: self.counts.rows,
             data: self.data.iter().map(|m| span(m).0).collect(),
             replies: self.replies.iter().map(span).collect(),
             outstanding: (acknowledged..sent).map(|row| (row, self.link.kept(row).0)).collect(),

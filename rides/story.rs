@@ -1,5 +1,6 @@
 //! A run in words: for each event what it did, then the counts, the messages in the air, the outstanding and the held rows.
 
+use crate::link::Account;
 use crate::numbers;
 use crate::run::{Fact, Kind, Run, State, Step};
 use crate::text;
@@ -181,7 +182,18 @@ pub fn told(run: &Run) -> String {
         lines.extend(words.map(|more| vec![String::new(), String::new(), more]));
     }
     let [sent, acknowledged, recorded] = run.counts();
-    aligned(&lines) + &format!("sent {sent} acknowledged {acknowledged} recorded {recorded}\n") + &marks(run)
+    let counts = format!("sent {sent} acknowledged {acknowledged} recorded {recorded}\n");
+    aligned(&lines) + &counts + &account(run) + &marks(run)
+}
+
+/// What became of the messages of each kind.
+fn account(run: &Run) -> String {
+    let of = |kind: Kind| {
+        let (account, left) = run.account(kind);
+        let Account { put, arrived, lost, dropped } = account;
+        format!("{put} put in the air, {arrived} arrived, {lost} lost, {dropped} dropped by age, {left} left")
+    };
+    format!("data messages: {}; replies: {}\n", of(Kind::Data), of(Kind::Reply))
 }
 
 /// What the marks mean, where there are any.

@@ -21,6 +21,9 @@ static size_t supply_lent = MATLINK_ROW_CELLS, record_lent = 2 * MATLINK_ROW_CEL
 static void show_counts(void) {
     printf(" sent %u acknowledged %u recorded %u", (unsigned)counts.sent, (unsigned)counts.acknowledged,
            (unsigned)counts.recorded);
+    printf(" data %u %u %u %u replies %u %u %u %u", (unsigned)counts.data_put, (unsigned)counts.data_arrived,
+           (unsigned)counts.data_lost, (unsigned)counts.data_dropped, (unsigned)counts.reply_put,
+           (unsigned)counts.reply_arrived, (unsigned)counts.reply_lost, (unsigned)counts.reply_dropped);
 }
 
 /* What is to stay is kept, and afterwards compared byte for byte. */
@@ -207,6 +210,8 @@ static void pad_order(void) {
     now.reply_count = 31;
     step(MATLINK_ARRIVE_DATA, 0);
     printf("in the air %u and %u\n", now.data_count, now.reply_count);
+    step(MATLINK_TICK, 1); /* the life of all replies but the last one was 1, and that of all other messages 2 */
+    step(MATLINK_TICK, 1);
     record_lent = 32;
 }
 

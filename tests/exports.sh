@@ -40,6 +40,7 @@ reply: 0
   it is the frame that was written
 reply arrives: 0
 every row was sent, recorded, acknowledged
+of four data messages one was lost
 the record is the supply
 END
 

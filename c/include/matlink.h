@@ -50,6 +50,7 @@ extern "C" {
 #define MATLINK_PAGE_ROWS 60          /* rows of a page; the last one of a record may have fewer */
 #define MATLINK_LINE_BYTES 23         /* bytes of a page's line: 5 columns, a space, sixteen digits or hyphens, a line feed */
 #define MATLINK_PAGED_ROWS_MOST 100000 /* rows of a record that has pages */
+#define MATLINK_COUNTS 11             /* numbers of struct matlink_counts */
 
 /* The kinds of events, with their arguments. Rows and messages are counted from the oldest, which is 0; when a message leaves a
  * table, those behind it move up. */
@@ -137,9 +138,16 @@ struct matlink {
     uint16_t reply[MATLINK_TABLE_MOST * MATLINK_REPLY_NUMBERS];
 };
 
-/* By how many rows a call raised what was sent, acknowledged and recorded. */
+/* What a call counted: by how many rows those sent, acknowledged and recorded rose; and of the messages of each table how many
+ * were put in it, arrived, were lost, and were dropped as their life was over. A send or a resend puts a data message; a reply, or
+ * the arrival of an old row, puts a reply. A refused event counts nothing. For a call of matlink_step or matlink_run, whatever the
+ * link is, and for the sums over several calls that each work on the link as the one before left it,
+ *    messages at the start + put = arrived + lost + dropped + messages left
+ * holds for each table. A ride starts without messages. */
 struct matlink_counts {
     uint64_t sent, acknowledged, recorded;
+    uint64_t data_put, data_arrived, data_lost, data_dropped;
+    uint64_t reply_put, reply_arrived, reply_lost, reply_dropped;
 };
 
 /* A frame. One of kind 1 carries a row under its number; when read, its `last` is 0. One of kind 2 is a reply for the rows from
@@ -149,8 +157,8 @@ struct matlink_frame {
 };
 
 /* Inner: the proved functions that the calls below lend to. Each asks, answers and writes as the function of its name below.
- * The numbers of a link are lent as an array of ten and those of a frame as an array of five, in the order of their struct. The
- * counts are three: sent, acknowledged, recorded. */
+ * The numbers of a link are lent as an array of ten, those of a frame as an array of five and the counts as an array of
+ * MATLINK_COUNTS, in the order of their struct. */
 uint8_t matlink_lent_open(uint16_t *head, uint16_t *mat_mark, uint16_t *mat_timer, uint16_t *mat_cell, uint16_t *pad_mark,
                           uint16_t *pad_timer, uint16_t *pad_cell, uint16_t *data, uint16_t *reply, uint32_t window,
                           uint32_t data_life, uint32_t reply_life, uint32_t reply_wait, uint32_t resend_wait);
@@ -214,6 +222,14 @@ static inline void matlink_counted(struct matlink_counts *counts, const size_t *
     counts->sent = numbers[0];
     counts->acknowledged = numbers[1];
     counts->recorded = numbers[2];
+    counts->data_put = numbers[3];
+    counts->data_arrived = numbers[4];
+    counts->data_lost = numbers[5];
+    counts->data_dropped = numbers[6];
+    counts->reply_put = numbers[7];
+    counts->reply_arrived = numbers[8];
+    counts->reply_lost = numbers[9];
+    counts->reply_dropped = numbers[10];
 }
 
 /* Opens a link.
@@ -250,14 +266,14 @@ static inline uint8_t matlink_open(struct matlink *link, uint32_t window, uint32
  * A kind or an argument above 255 is no event: 8. 6 is asked of every event, and 12 of the first row of the supply alone.
  * Done: the link is the one after the event. A send takes the first row of the supply. A reply writes the rows that it records
  * to the front of the record, and the cells behind them are as they were; other events write nothing there. The counts say what
- * rose. The next call gets the supply from behind the rows sent, and the record from behind the rows recorded.
+ * was counted. The next call gets the supply from behind the rows sent, and the record from behind the rows recorded.
  * Refused: link and record are as they were, and the counts are 0, whichever question it was.
- * Stack: 624 bytes, the proved function 448. */
+ * Stack: 744 bytes, the proved function 504. */
 static inline uint8_t matlink_step(struct matlink *link, uint32_t kind, uint32_t argument, const uint16_t *supply,
                                    size_t supply_count, uint16_t *record, size_t record_count,
                                    struct matlink_counts *counts) {
     uint16_t head[10];
-    size_t numbers[3] = {0};
+    size_t numbers[MATLINK_COUNTS] = {0};
     uint8_t answer;
     matlink_numbers(link, head);
     answer = matlink_lent_step(head, link->mat_mark, link->mat_timer, link->mat_cell, link->pad_mark, link->pad_timer,
@@ -275,14 +291,14 @@ static inline uint8_t matlink_step(struct matlink *link, uint32_t kind, uint32_t
  * its answer byte, and the next one follows. A list may be empty.
  * Done: the link is the one after all events; if every event was refused, it is as it was. The first answer bytes are the
  * events' answers, one each, and the rows recorded stand at the front of the record; the rest of both is as it was. The counts
- * say what rose in all.
+ * say what was counted in all.
  * Refused: link, record and answers are as they were, and the counts are 0, whichever question it was.
- * Stack: 768 bytes, the proved function 576. */
+ * Stack: 856 bytes, the proved function 600. */
 static inline uint8_t matlink_run(struct matlink *link, const uint8_t *events, size_t events_count, const uint16_t *supply,
                                   size_t supply_count, uint16_t *record, size_t record_count, uint8_t *answers,
                                   size_t answers_count, struct matlink_counts *counts) {
     uint16_t head[10];
-    size_t numbers[3] = {0};
+    size_t numbers[MATLINK_COUNTS] = {0};
     uint8_t answer;
     matlink_numbers(link, head);
     answer = matlink_lent_run(head, link->mat_mark, link->mat_timer, link->mat_cell, link->pad_mark, link->pad_timer,
@@ -297,12 +313,12 @@ static inline uint8_t matlink_run(struct matlink *link, const uint8_t *events, s
  * Asked in this order: 1, 2, 3 as by matlink_open, then 5, 6, 7 and the events as by matlink_run.
  * Done: record, answers and counts as by matlink_run.
  * Refused: record and answers are as they were, and the counts are 0, whichever question it was.
- * Stack: 4176 bytes, the proved function 4064. The link is kept there. */
+ * Stack: 4280 bytes, the proved function 4104. The link is kept there. */
 static inline uint8_t matlink_ride(uint32_t window, uint32_t data_life, uint32_t reply_life, uint32_t reply_wait,
                                    uint32_t resend_wait, const uint8_t *events, size_t events_count, const uint16_t *supply,
                                    size_t supply_count, uint16_t *record, size_t record_count, uint8_t *answers,
                                    size_t answers_count, struct matlink_counts *counts) {
-    size_t numbers[3] = {0};
+    size_t numbers[MATLINK_COUNTS] = {0};
     uint8_t answer = matlink_lent_ride(window, data_life, reply_life, reply_wait, resend_wait, events, events_count, supply,
                                        supply_count, record, record_count, answers, answers_count, numbers);
     matlink_counted(counts, numbers);

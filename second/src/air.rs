@@ -44,6 +44,30 @@ impl Message for Reply {
     }
 }
 
+/// What became of the messages of one table, counted over a call or a list.
+#[derive(Clone, Copy, Debug, Default, PartialEq, Eq, Hash)]
+pub struct Account {
+    /// Messages put in the table.
+    pub put: usize,
+    /// Messages that arrived.
+    pub arrived: usize,
+    /// Messages that were lost.
+    pub lost: usize,
+    /// Messages that a tick dropped, as it was at least their life.
+    pub dropped: usize,
+}
+
+impl Account {
+    /// Adds the account of a later call.
+    #[inline]
+    pub fn add(&mut self, later: Account) {
+        self.put += later.put;
+        self.arrived += later.arrived;
+        self.lost += later.lost;
+        self.dropped += later.dropped;
+    }
+}
+
 /// The messages in the air in one direction, oldest first. What stands behind the count means nothing.
 #[derive(Clone, Debug, Default, PartialEq, Eq, Hash)]
 pub struct Table<M> {
@@ -72,25 +96,34 @@ impl<M: Message> Table<M> {
     }
 
     #[inline]
-    pub(crate) fn put(&mut self, message: M) {
+    pub(crate) fn put(&mut self, message: M, account: &mut Account) {
         self.messages[self.count] = message;
         self.count += 1;
+        account.put += 1;
     }
 
     #[inline]
-    pub(crate) fn remove(&mut self, p: u8) {
+    fn remove(&mut self, p: u8) {
         self.messages.copy_within(usize::from(p) + 1..self.count, usize::from(p));
         self.count -= 1;
     }
 
-    pub(crate) fn lose(&mut self, p: u8) -> Result<(), Refusal> {
+    /// The message leaves, as it has arrived. The caller puts question 17, and those that come behind it.
+    #[inline]
+    pub(crate) fn arrive(&mut self, p: u8, account: &mut Account) {
+        self.remove(p);
+        account.arrived += 1;
+    }
+
+    pub(crate) fn lose(&mut self, p: u8, account: &mut Account) -> Result<(), Refusal> {
         self.at(p)?;
         self.remove(p);
+        account.lost += 1;
         Ok(())
     }
 
     /// Lives fall, and messages with none left go.
-    pub(crate) fn tick(&mut self, d: u16) {
+    pub(crate) fn tick(&mut self, d: u16, account: &mut Account) {
         let mut kept = 0;
         for place in 0..self.count {
             let life = *self.messages[place].life();
@@ -100,6 +133,8 @@ impl<M: Message> Table<M> {
                 }
                 *self.messages[kept].life() = life - d;
                 kept += 1;
+            } else {
+                account.dropped += 1;
             }
         }
         self.count = kept;

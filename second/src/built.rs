@@ -2,7 +2,7 @@
 //!
 //! A link is changed in place; a refused call leaves it, the record and the answers as they were.
 
-pub use crate::air::{Data, Reply, Table};
+pub use crate::air::{Account, Data, Reply, Table};
 use crate::limits::{ask, legal, number, Limits, Refusal, Row, CELLS, LARGEST_WINDOW, TABLE_PLACES};
 
 /// Steps on the ring of 2w sequence numbers. Numbers and steps stay below 2w, so one comparison replaces the remainder.
@@ -133,7 +133,7 @@ fn fall(timers: &mut [u16; LARGEST_WINDOW], d: u16) {
     }
 }
 
-/// By how much next, oldest and wanted rose in a call.
+/// By how much next, oldest and wanted rose in a call, and what became of the messages in the air.
 #[derive(Clone, Copy, Debug, Default, PartialEq, Eq, Hash)]
 pub struct Counts {
     /// Rows sent for the first time.
@@ -142,15 +142,26 @@ pub struct Counts {
     pub acknowledged: usize,
     /// Rows written to the record.
     pub recorded: usize,
+    /// The account of the data table.
+    pub data: Account,
+    /// The account of the reply table.
+    pub replies: Account,
 }
 
 impl Counts {
-    /// Adds the rises of a later call.
+    /// Adds the counts of a later call.
     #[inline]
     pub fn add(&mut self, later: Counts) {
         self.sent += later.sent;
         self.acknowledged += later.acknowledged;
         self.recorded += later.recorded;
+        self.data.add(later.data);
+        self.replies.add(later.replies);
+    }
+
+    /// The counts of rows alone, with empty accounts: lists that lead to the same state have them in common.
+    pub fn rows(self) -> Counts {
+        Counts { data: Account::default(), replies: Account::default(), ..self }
     }
 }
 
@@ -206,10 +217,12 @@ impl Link {
     pub fn step(&mut self, kind: u8, argument: u8, supply: &[u16], record: &mut [u16]) -> Result<Counts, Refusal> {
         ask(self.sound(), Refusal::Unsound)?;
         ask(supply.len().is_multiple_of(CELLS), Refusal::SupplyLength)?;
-        self.event(kind, argument, supply, record)
+        let mut counts = Counts::default();
+        self.event(kind, argument, supply, record, &mut counts)?;
+        Ok(counts)
     }
 
-    /// A run of events from the front of supply and record: one answer for each event, and the rises over the run.
+    /// A run of events from the front of supply and record: one answer for each event, and the counts of the run.
     ///
     /// Question 4 is put once, as every event leaves a sound link sound.
     pub fn run(&mut self, events: &[u8], supply: &[u16], record: &mut [u16], answers: &mut [u8]) -> Result<Counts, Refusal> {
@@ -217,22 +230,27 @@ impl Link {
         ask(events.len().is_multiple_of(2), Refusal::OddEvents)?;
         ask(supply.len().is_multiple_of(CELLS), Refusal::SupplyLength)?;
         ask(answers.len() >= events.len() / 2, Refusal::AnswersShort)?;
-        let mut total = Counts::default();
+        let mut counts = Counts::default();
         for (event, answer) in events.chunks_exact(2).zip(answers) {
-            let supply = &supply[total.sent * CELLS..];
-            let record = &mut record[total.recorded * CELLS..];
-            let done = self.event(event[0], event[1], supply, record);
-            *answer = number(&done);
-            if let Ok(rises) = done {
-                total.add(rises);
-            }
+            let supply = &supply[counts.sent * CELLS..];
+            let record = &mut record[counts.recorded * CELLS..];
+            *answer = number(&self.event(event[0], event[1], supply, record, &mut counts));
         }
-        Ok(total)
+        Ok(counts)
     }
 
     /// Questions 8 and 9, then the kind's. All questions of an event stand before its first change. The caller puts 4 and 6.
+    ///
+    /// The counts of a list are lent to each event, which raises only its own: adding up all of them would take longer.
     #[inline]
-    pub(crate) fn event(&mut self, kind: u8, argument: u8, supply: &[u16], record: &mut [u16]) -> Result<Counts, Refusal> {
+    pub(crate) fn event(
+        &mut self,
+        kind: u8,
+        argument: u8,
+        supply: &[u16],
+        record: &mut [u16],
+        counts: &mut Counts,
+    ) -> Result<(), Refusal> {
         ask((1..=8).contains(&kind), Refusal::Kind)?;
         match kind {
             1 | 4 => ask(argument == 0, Refusal::Argument)?,
@@ -240,18 +258,21 @@ impl Link {
             _ => {}
         }
         match kind {
-            1 => self.send(supply),
-            2 => self.resend(argument),
-            3 => self.arrive_data(argument),
-            4 => self.reply(record),
-            5 => self.arrive_reply(argument),
-            6 => self.data.lose(argument).map(|()| Counts::default()),
-            7 => self.replies.lose(argument).map(|()| Counts::default()),
-            _ => Ok(self.tick(u16::from(argument))),
+            1 => self.send(supply, counts),
+            2 => self.resend(argument, counts),
+            3 => self.arrive_data(argument, counts),
+            4 => self.reply(record, counts),
+            5 => self.arrive_reply(argument, counts),
+            6 => self.data.lose(argument, &mut counts.data),
+            7 => self.replies.lose(argument, &mut counts.replies),
+            _ => {
+                self.tick(u16::from(argument), counts);
+                Ok(())
+            }
         }
     }
 
-    fn send(&mut self, supply: &[u16]) -> Result<Counts, Refusal> {
+    fn send(&mut self, supply: &[u16], counts: &mut Counts) -> Result<(), Refusal> {
         let ring = Ring::of(&self.limits);
         ask(self.mat.outstanding(ring) < ring.window, Refusal::WindowFull)?;
         let row: &Row = supply.first_chunk().ok_or(Refusal::SupplyEmpty)?;
@@ -260,31 +281,33 @@ impl Link {
         let sent = self.mat.next;
         self.mat.rows[ring.place(sent)] = *row;
         self.mat.next = ring.after(sent, 1);
-        self.transmit(ring, sent);
-        Ok(Counts { sent: 1, ..Counts::default() })
+        self.transmit(ring, sent, counts);
+        counts.sent += 1;
+        Ok(())
     }
 
-    fn resend(&mut self, k: u8) -> Result<Counts, Refusal> {
+    fn resend(&mut self, k: u8, counts: &mut Counts) -> Result<(), Refusal> {
         let ring = Ring::of(&self.limits);
         ask(k < self.mat.outstanding(ring), Refusal::NotOutstanding)?;
         let sent = ring.after(self.mat.oldest, k);
         ask(!self.mat.marked[ring.place(sent)], Refusal::Acknowledged)?;
         ask(self.mat.timers[ring.place(sent)] == 0, Refusal::TimerRuns)?;
         ask(self.data.has_place(), Refusal::DataTableFull)?;
-        self.transmit(ring, sent);
-        Ok(Counts::default())
+        self.transmit(ring, sent, counts);
+        Ok(())
     }
 
     /// Puts a kept row in the air and starts its retransmission timer, at each sending.
     #[inline]
-    fn transmit(&mut self, ring: Ring, number: u8) {
+    fn transmit(&mut self, ring: Ring, number: u8, counts: &mut Counts) {
         let place = ring.place(number);
         self.mat.timers[place] = self.limits.resend_wait;
-        self.data.put(Data { number, life: self.limits.data_life, row: self.mat.rows[place] });
+        let message = Data { number, life: self.limits.data_life, row: self.mat.rows[place] };
+        self.data.put(message, &mut counts.data);
     }
 
     /// A row below wanted is acknowledged again at once; any other is held, and its reply timer starts at each arrival.
-    fn arrive_data(&mut self, p: u8) -> Result<Counts, Refusal> {
+    fn arrive_data(&mut self, p: u8, counts: &mut Counts) -> Result<(), Refusal> {
         let ring = Ring::of(&self.limits);
         let message = self.data.at(p)?;
         let v = message.number;
@@ -295,13 +318,13 @@ impl Link {
             self.pad.timers[place] = self.limits.reply_wait;
         } else {
             ask(self.replies.has_place(), Refusal::ReplyTableFull)?;
-            self.replies.put(Reply { first: v, last: v, life: self.limits.reply_life });
+            self.replies.put(Reply { first: v, last: v, life: self.limits.reply_life }, &mut counts.replies);
         }
-        self.data.remove(p);
-        Ok(Counts::default())
+        self.data.arrive(p, &mut counts.data);
+        Ok(())
     }
 
-    fn reply(&mut self, record: &mut [u16]) -> Result<Counts, Refusal> {
+    fn reply(&mut self, record: &mut [u16], counts: &mut Counts) -> Result<(), Refusal> {
         let ring = Ring::of(&self.limits);
         let length = self.pad.run_length(ring);
         ask(length > 0, Refusal::NothingToReply)?;
@@ -314,19 +337,21 @@ impl Link {
             self.pad.held[place] = false;
         }
         self.pad.wanted = ring.after(first, length);
-        self.replies.put(Reply { first, last: ring.after(first, length - 1), life: self.limits.reply_life });
-        Ok(Counts { recorded: usize::from(length), ..Counts::default() })
+        let reply = Reply { first, last: ring.after(first, length - 1), life: self.limits.reply_life };
+        self.replies.put(reply, &mut counts.replies);
+        counts.recorded += usize::from(length);
+        Ok(())
     }
 
     /// The span is marked wherever it lies in the window. A passed row's mark goes, as its place is used again.
-    fn arrive_reply(&mut self, p: u8) -> Result<Counts, Refusal> {
+    fn arrive_reply(&mut self, p: u8, counts: &mut Counts) -> Result<(), Refusal> {
         let ring = Ring::of(&self.limits);
         let &Reply { first, last, .. } = self.replies.at(p)?;
         let outstanding = self.mat.outstanding(ring);
         let from = ring.distance(self.mat.oldest, first);
         let span = ring.distance(first, last) + 1;
         ask(from + span <= outstanding, Refusal::SpanNotOutstanding)?;
-        self.replies.remove(p);
+        self.replies.arrive(p, &mut counts.replies);
         let mat = &mut self.mat;
         for k in from..from + span {
             mat.marked[ring.place(ring.after(mat.oldest, k))] = true;
@@ -341,14 +366,14 @@ impl Link {
             passed += 1;
         }
         mat.oldest = ring.after(mat.oldest, passed);
-        Ok(Counts { acknowledged: usize::from(passed), ..Counts::default() })
+        counts.acknowledged += usize::from(passed);
+        Ok(())
     }
 
-    fn tick(&mut self, d: u16) -> Counts {
+    fn tick(&mut self, d: u16, counts: &mut Counts) {
         fall(&mut self.mat.timers, d);
         fall(&mut self.pad.timers, d);
-        self.data.tick(d);
-        self.replies.tick(d);
-        Counts::default()
+        self.data.tick(d, &mut counts.data);
+        self.replies.tick(d, &mut counts.replies);
     }
 }

@@ -1,11 +1,11 @@
 //! What is put to the proved library: random lists, all short lists, bad limits, numbers that are too wide.
 
 use crate::built::Counts;
-use crate::compare::{different, Call, Case};
-use crate::differ::{counts, difference, ride_difference, Difference};
+use crate::compare::{different, event_bytes, Call, Case};
+use crate::differ::{counts, difference, ride_difference, Difference, LentCounts};
 use crate::draw::{random_case, random_limits};
-use crate::library::{asked, Lent, Library};
-use crate::limits::{number, Limits, CELLS};
+use crate::library::{asked, Asked, Lent, Library};
+use crate::limits::{number, Limits, Refusal, CELLS};
 use crate::matlink::Matlink;
 use crate::members::members;
 use crate::met::Lists;
@@ -17,7 +17,7 @@ use crate::threads::{items, seeds, Amount};
 /// A list through calls, and where that shows nothing in one ride.
 fn list_difference(library: &dyn Library, case: &Case) -> Option<String> {
     let whole_ride = || {
-        let events: Vec<u8> = flat(&case.calls).into_iter().flat_map(|(kind, argument)| [kind, argument]).collect();
+        let events = event_bytes(&flat(&case.calls));
         ride_difference(library, case, &events, events.len() / 2)
     };
     difference(library, case).or_else(whole_ride)
@@ -32,16 +32,16 @@ pub(crate) fn cut(library: &dyn Library, case: Case, found: String) -> (String, 
     (list_difference(library, &cut).unwrap_or(found), cut)
 }
 
-/// A seeded list through its calls and in one ride: how many rows were sent in it, or what differs, with the case cut.
-fn random_list(library: &dyn Library, seed: u64, case: &Case) -> Result<usize, (String, Case)> {
+/// A seeded list through its calls and in one ride: the counts of its calls, or what differs, with the case cut.
+fn random_list(library: &dyn Library, seed: u64, case: &Case) -> Result<Counts, (String, Case)> {
     let failed = |found| cut(library, case.clone(), found);
-    let Counts { sent, .. } = counts(library, case).map_err(failed)?;
-    let list: Vec<u8> = flat(&case.calls).into_iter().flat_map(|(kind, argument)| [kind, argument]).collect();
+    let counts = counts(library, case).map_err(failed)?;
+    let list = event_bytes(&flat(&case.calls));
     // the odd count and the short buffer come now and then
     let (odd, short) = (usize::from(seed % 50 == 3), usize::from(seed % 50 == 4));
     let bytes = &list[..list.len() - odd];
     let answers = (list.len() / 2).saturating_sub(short) + (seed % 3) as usize * (1 - short);
-    ride_difference(library, case, bytes, answers).map_or(Ok(sent), |found| Err(failed(found)))
+    ride_difference(library, case, bytes, answers).map_or(Ok(counts), |found| Err(failed(found)))
 }
 
 /// Seeded lists cut into runs and calls for one event, and each in one ride.
@@ -138,33 +138,37 @@ pub(crate) fn limits_of(window: usize, times: [u16; 3], resend_wait: u16) -> Lim
 /// Numbers wider than a link has: a limit above 65,535 is refused as 65,535 is, and an event that is not two bytes answers 8.
 pub fn wide_numbers(library: &dyn Library) -> Outcome {
     let good = [2, 1, 1, 1, 4];
-    let zeros = Matlink::filled(0);
     let mut calls = 0;
-    for (place, refusal) in [1, 2, 2, 2, 3].into_iter().enumerate() {
+    let refusals = [Refusal::Window, Refusal::Times, Refusal::Times, Refusal::Times, Refusal::ResendWait];
+    for (place, refusal) in refusals.into_iter().enumerate() {
         for wide in [65_536, 65_537, 65_538, 65_540, 1 << 31, u32::MAX] {
             let mut asked = good;
             asked[place] = wide;
-            let mut link = Matlink::filled(5);
-            let opened = library.open(&mut link, asked);
-            let lent = Lent { events: &[], supply: &[], record: &mut [], answers: &mut [], counts: &mut [0; 3] };
-            let rode = library.ride(asked, lent);
-            let found = different((opened, rode), (refusal, refusal), || format!("limits {asked:?}"))
-                .or_else(|| different(&link, &zeros, || "link of a refused opening".into()));
-            if let Some(text) = found {
-                return Err(format!("wide numbers: {text}"));
-            }
+            let found = wide_limit(library, asked, refusal);
+            found.map_or(Ok(()), |text| Err(format!("wide numbers: limits {asked:?}: {text}")))?;
             calls += 2;
         }
     }
-    let mut link = zeros;
+    let mut link = Matlink::filled(0);
     library.open(&mut link, good);
     for event in [(256, 0), (257, 0), (1, 256), (8, 257), (u32::MAX, 0), (8, u32::MAX), (264, 1)] {
-        let (given, mut counts) = (link.clone(), [5; 3]);
-        let answer = library.step(&mut link, event, &[1; CELLS], &mut [], &mut counts);
-        if (answer, counts) != (8, [0; 3]) || link != given {
-            return Err(format!("event {event:?}: answer {answer}, counts {counts:?}"));
-        }
+        let (given, mut lent) = (link.clone(), LentCounts::blank());
+        let answer = library.step(&mut link, event, &[1; CELLS], &mut [], lent.counts());
+        let found = (answer != 8).then(|| format!("library answers {answer}"));
+        let found = found.or_else(|| members(&link, &given)).or_else(|| lent.difference(&Err(Refusal::Kind)));
+        found.map_or(Ok(()), |text| Err(format!("wide numbers: event {event:?}: {text}")))?;
         calls += 1;
     }
     Ok(format!("{calls} calls with numbers that are too wide"))
+}
+
+/// What differs in an opening and a ride that are refused.
+fn wide_limit(library: &dyn Library, asked: Asked, refusal: Refusal) -> Difference {
+    let (mut link, mut lent) = (Matlink::filled(5), LentCounts::blank());
+    let opened = library.open(&mut link, asked);
+    let ride = Lent { events: &[], supply: &[], record: &mut [], answers: &mut [], counts: lent.counts() };
+    let rode = library.ride(asked, ride);
+    different((opened, rode), (refusal as u8, refusal as u8), || "numbers".into())
+        .or_else(|| members(&link, &Matlink::filled(0)).map(|text| format!("link of a refused opening\n{text}")))
+        .or_else(|| lent.difference(&Err(refusal)))
 }

@@ -1,5 +1,6 @@
 //! The built ends compared with the unbounded ends on one list, as the paper says under "Compared with the unbounded ends".
 
+use crate::audit::Audit;
 use crate::built::{Counts, Link};
 use crate::limits::{number, Limits, Refusal, Row, CELLS};
 use crate::unbounded::Ends;
@@ -23,6 +24,15 @@ pub enum Call {
     },
 }
 
+/// What the built ends gave for a call.
+#[derive(Clone, Debug)]
+pub struct Called {
+    /// The counts, or why it was refused.
+    pub done: Result<Counts, Refusal>,
+    /// The answers to the events of a run.
+    pub answers: Vec<u8>,
+}
+
 /// A list with all that both ends are handed.
 #[derive(Clone, Debug, PartialEq, Eq)]
 pub struct Case {
@@ -39,6 +49,11 @@ pub struct Case {
 /// A call for each event.
 pub fn ones(events: &[(u8, u8)]) -> Vec<Call> {
     events.iter().map(|&(kind, argument)| Call::One { kind, argument }).collect()
+}
+
+/// Kind and argument of each event, as a run takes them.
+pub fn event_bytes(events: &[(u8, u8)]) -> Vec<u8> {
+    events.iter().flat_map(|&(kind, argument)| [kind, argument]).collect()
 }
 
 /// How the built ends take one event, so that a test can put a wrong one in its place.
@@ -69,15 +84,17 @@ pub fn compare_with(case: &Case, step: Step) -> Option<String> {
     }
     let ends = Ends::fresh(link.limits);
     let (supply, record) = (rows(&case.supply), case.record.clone());
+    let mut audit = Audit::of(&link);
     let mut both = Both { case, supply, link, ends, record, total: Counts::default() };
     case.calls.iter().enumerate().find_map(|(at, call)| {
-        let found = match call {
+        let (called, found) = match call {
             Call::One { kind, argument } => both.one(step, *kind, *argument),
             Call::Run { events, answers } => both.run(events, *answers),
         };
         let found = found
             .or_else(|| state_difference(&both.link, &both.ends, both.total))
-            .or_else(|| record_difference(&both.record, &case.record, &both.supply, &both.ends));
+            .or_else(|| record_difference(&both.record, &case.record, &both.supply, &both.ends))
+            .or_else(|| audit.call(call, &called, &both.link));
         found.map(|text| format!("after call {}: {text}", at + 1))
     })
 }
@@ -94,27 +111,28 @@ struct Both<'a> {
 
 impl Both<'_> {
     /// A call for one event. Question 6 is for the built ends alone.
-    fn one(&mut self, step: Step, kind: u8, argument: u8) -> Option<String> {
+    fn one(&mut self, step: Step, kind: u8, argument: u8) -> (Called, Option<String>) {
         let rest = &self.case.supply[self.total.sent * CELLS..];
         let space = &mut self.record[self.total.recorded * CELLS..];
-        let answer = step(&mut self.link, kind, argument, rest, space);
-        self.total.add(answer.unwrap_or_default());
+        let done = step(&mut self.link, kind, argument, rest, space);
+        self.total.add(done.unwrap_or_default());
         let expected = if rest.len().is_multiple_of(CELLS) {
             number(&self.ends.event(kind, argument, &self.supply, self.case.record.len()))
         } else {
             Refusal::SupplyLength as u8
         };
-        different(number(&answer), expected, || format!("answer to {kind} {argument}"))
+        let found = different(number(&done), expected, || format!("answer to {kind} {argument}"));
+        (Called { done, answers: vec![] }, found)
     }
 
     /// A run. Questions 5 to 7 are for the built ends alone.
-    fn run(&mut self, events: &[u8], answers: usize) -> Option<String> {
+    fn run(&mut self, events: &[u8], answers: usize) -> (Called, Option<String>) {
         let rest = &self.case.supply[self.total.sent * CELLS..];
         let space = &mut self.record[self.total.recorded * CELLS..];
         let (mut buffer, mut expected) = (vec![UNTOUCHED; answers], vec![UNTOUCHED; answers]);
         let before = self.link.clone();
-        let answer = self.link.run(events, rest, space, &mut buffer);
-        self.total.add(answer.unwrap_or_default());
+        let done = self.link.run(events, rest, space, &mut buffer);
+        self.total.add(done.unwrap_or_default());
         let refusal = if !events.len().is_multiple_of(2) {
             5
         } else if !rest.len().is_multiple_of(CELLS) {
@@ -129,12 +147,13 @@ impl Both<'_> {
                 *answer = number(&self.ends.event(event[0], event[1], &self.supply, self.case.record.len()));
             }
         }
-        different(number(&answer), refusal, || "number of the run".into())
+        let found = different(number(&done), refusal, || "number of the run".into())
             .or_else(|| different(&buffer, &expected, || "answer buffer".into()))
             .or_else(|| {
                 let as_given = refusal == 0 || self.link == before;
                 different(as_given, true, || "link of a refused run is as given".into())
-            })
+            });
+        (Called { done, answers: buffer }, found)
     }
 }
 
@@ -147,9 +166,10 @@ pub fn different<T: PartialEq + std::fmt::Debug>(built: T, expected: T, what: im
 pub fn state_difference(link: &Link, ends: &Ends, total: Counts) -> Option<String> {
     let w = link.limits.window;
     let ring = |number: usize| (number % (2 * w)) as u8;
-    let expected = Counts { sent: ends.next, acknowledged: ends.oldest, recorded: ends.wanted };
+    let Counts { sent, acknowledged, recorded, .. } = total;
+    let (rows, expected) = ([sent, acknowledged, recorded], [ends.next, ends.oldest, ends.wanted]);
     different(link.limits, ends.limits, || "limits".into())
-        .or_else(|| different(total, expected, || "counts".into()))
+        .or_else(|| different(rows, expected, || "counts of rows sent, acknowledged and recorded".into()))
         .or_else(|| different(link.mat.oldest, ring(ends.oldest), || "oldest".into()))
         .or_else(|| different(link.mat.next, ring(ends.next), || "next".into()))
         .or_else(|| different(link.pad.wanted, ring(ends.wanted), || "wanted".into()))

@@ -1,8 +1,9 @@
 //! The proved library compared with the built ends here, call by call on one list.
 
+use crate::audit::Audit;
 use crate::built::{Counts, Link};
-use crate::compare::{different, Call, Case};
-use crate::library::{asked, rises, Lent, Library};
+use crate::compare::{different, Call, Called, Case};
+use crate::library::{asked, count_numbers, CountNumbers, Lent, Library, COUNT_NAMES};
 use crate::limits::{number, Limits, Refusal, CELLS};
 use crate::matlink::{head_of, without_free, Matlink};
 use crate::members::{members, name, named};
@@ -12,7 +13,7 @@ use crate::ride_text::words;
 const BLANK: u16 = 0xAAAA;
 
 /// The same for counts.
-const NO_COUNT: usize = usize::MAX;
+const NO_COUNT: u64 = u64::MAX;
 
 /// Numbers behind the kept link and behind the counts, which must stay.
 const BEHIND: usize = 2;
@@ -37,7 +38,7 @@ pub struct Pair {
     pub record: Vec<u16>,
     /// The record that the link here wrote.
     pub expected: Vec<u16>,
-    /// The counts so far.
+    /// The counts of rows so far. Without the accounts, so that lists that lead to the same links are the same pair.
     pub total: Counts,
 }
 
@@ -70,41 +71,41 @@ impl Pair {
         different(self.kept.behind, [BLANK; BEHIND], || "numbers behind the link".into())
     }
 
-    /// One call on both, with the supply and the record from behind the rows so far; what differs after it, and the number.
-    pub fn call(&mut self, library: &dyn Library, call: &Call, supply: &[u16]) -> (u8, Difference) {
+    /// One call on both, with the supply and the record from behind the rows so far: what the call here gave, and what differs
+    /// after it.
+    pub fn call(&mut self, library: &dyn Library, call: &Call, supply: &[u16]) -> (Called, Difference) {
         let rest = &supply[self.total.sent * CELLS..];
         let at = self.total.recorded * CELLS;
         let before = self.kept.clone();
-        let mut counts = [NO_COUNT; 3 + BEHIND];
-        let three = counts.first_chunk_mut().expect("three counts");
-        let (answer, expected, found) = match call {
+        let (record, expected) = (&mut self.record[at..], &mut self.expected[at..]);
+        let mut lent = LentCounts::blank();
+        let (answer, done, answers, found) = match call {
             Call::One { kind, argument } => {
                 let event = (u32::from(*kind), u32::from(*argument));
-                let answer = library.step(&mut self.kept.link, event, rest, &mut self.record[at..], three);
-                let expected = self.link.step(*kind, *argument, rest, &mut self.expected[at..]);
-                (answer, expected, None)
+                let answer = library.step(&mut self.kept.link, event, rest, record, lent.counts());
+                (answer, self.link.step(*kind, *argument, rest, expected), vec![], None)
             }
             Call::Run { events, answers } => {
                 let (mut proved, mut here) = (vec![0xAA; *answers], vec![0xAA; *answers]);
-                let record = &mut self.record[at..];
-                let lent = Lent { events, supply: rest, record, answers: &mut proved, counts: three };
+                let lent = Lent { events, supply: rest, record, answers: &mut proved, counts: lent.counts() };
                 let answer = library.run(&mut self.kept.link, lent);
-                let expected = self.link.run(events, rest, &mut self.expected[at..], &mut here);
-                (answer, expected, answers_difference(&proved, &here, events))
+                let done = self.link.run(events, rest, expected, &mut here);
+                let found = answers_difference(&proved, &here, events);
+                (answer, done, here, found)
             }
         };
-        let found = answer_difference(answer, &expected, || call_words(call))
+        let found = answer_difference(answer, &done, || call_words(call))
             .or(found)
-            .or_else(|| counts_difference(&counts, &expected))
+            .or_else(|| lent.difference(&done))
             .or_else(|| record_difference(&self.record, &self.expected))
             .or_else(|| self.behind())
-            .or_else(|| match expected {
+            .or_else(|| match done {
                 Ok(_) => self.link_difference(),
                 Err(_) if self.kept == before => None,
                 Err(_) => members(&self.kept.link, &before.link).map(|text| format!("link of a refused call\n{text}")),
             });
-        self.total.add(expected.unwrap_or_default());
-        (answer, found)
+        self.total.add(done.unwrap_or_default().rows());
+        (Called { done, answers }, found)
     }
 
     /// Both links, but for what is free. The single numbers come first, as they say what is free.
@@ -162,24 +163,75 @@ fn record_difference(library: &[u16], expected: &[u16]) -> Difference {
     named(library, expected, |at| format!("record[{at}] (row {}, cell {})", at / CELLS, at % CELLS))
 }
 
-/// Three counts, 0 where the call was refused; the numbers behind them stay.
-fn counts_difference(counts: &[usize], expected: &Result<Counts, Refusal>) -> Difference {
-    let mut all = [NO_COUNT; 3 + BEHIND];
-    all[..3].copy_from_slice(&rises(expected.unwrap_or_default()));
-    let names = ["sent", "acknowledged", "recorded", "number behind the counts", "number behind the counts"];
-    named(counts, &all, |at| names[at].into())
+/// Counts that are lent to a call, and numbers behind them.
+pub struct LentCounts {
+    /// The counts, and the numbers behind them.
+    pub all: [u64; COUNT_NAMES.len() + BEHIND],
+}
+
+impl LentCounts {
+    /// As they are before a call.
+    pub fn blank() -> LentCounts {
+        LentCounts { all: [NO_COUNT; _] }
+    }
+
+    /// What a call may write.
+    pub fn counts(&mut self) -> &mut CountNumbers {
+        self.all.first_chunk_mut().expect("more than the counts")
+    }
+
+    /// The counts are those of the call here, and 0 where it is refused; the numbers behind them stay.
+    pub fn difference(&self, here: &Result<Counts, Refusal>) -> Difference {
+        let mut expected = LentCounts::blank();
+        *expected.counts() = count_numbers(here.unwrap_or_default());
+        let name = |at: usize| COUNT_NAMES.get(at).copied().unwrap_or("number behind the counts").into();
+        named(&self.all, &expected.all, name)
+    }
+}
+
+/// Both links after some calls of a list, with an audit of the list's account.
+pub struct AuditedPair {
+    /// Both links.
+    pub pair: Pair,
+    start: Link,
+    /// None before a call is done, as none is on a link that is not sound.
+    audit: Option<Audit>,
+}
+
+impl AuditedPair {
+    /// A list that starts from these links.
+    pub fn of(pair: Pair) -> AuditedPair {
+        AuditedPair { start: pair.link.clone(), pair, audit: None }
+    }
+
+    /// One call on both, and what differs or is wrong in the account after it.
+    pub fn call(&mut self, library: &dyn Library, call: &Call, supply: &[u16]) -> (Called, Difference) {
+        let (called, found) = self.pair.call(library, call, supply);
+        if found.is_some() || called.done.is_err() {
+            return (called, found);
+        }
+        let audit = self.audit.get_or_insert_with(|| Audit::of(&self.start));
+        let found = audit.call(call, &called, &self.pair.link);
+        (called, found)
+    }
+
+    /// The counts of all calls, added up.
+    pub fn total(&self) -> Counts {
+        self.audit.as_ref().map_or(Counts::default(), |audit| audit.total)
+    }
 }
 
 /// The counts of a case, or the first difference on it. Its opening may be refused: its calls then meet question 4.
 pub fn counts(library: &dyn Library, case: &Case) -> Result<Counts, String> {
-    let (mut pair, _, found) = Pair::open(library, case.limits, &case.record);
+    let (pair, _, found) = Pair::open(library, case.limits, &case.record);
+    let mut audited = AuditedPair::of(pair);
     let found = found.or_else(|| {
         case.calls.iter().enumerate().find_map(|(at, call)| {
-            let (_, found) = pair.call(library, call, &case.supply);
+            let (_, found) = audited.call(library, call, &case.supply);
             found.map(|text| format!("after call {}: {text}", at + 1))
         })
     });
-    found.map_or(Ok(pair.total), Err)
+    found.map_or(Ok(audited.total()), Err)
 }
 
 /// The first difference on a case.
@@ -191,15 +243,14 @@ pub fn difference(library: &dyn Library, case: &Case) -> Difference {
 pub fn ride_difference(library: &dyn Library, case: &Case, events: &[u8], answers: usize) -> Difference {
     let (mut record, mut expected) = (case.record.clone(), case.record.clone());
     let (mut proved, mut here) = (vec![0xAA; answers], vec![0xAA; answers]);
-    let mut counts = [NO_COUNT; 3 + BEHIND];
-    let three = counts.first_chunk_mut().expect("three counts");
-    let lent = Lent { events, supply: &case.supply, record: &mut record, answers: &mut proved, counts: three };
-    let answer = library.ride(asked(case.limits), lent);
+    let mut lent = LentCounts::blank();
+    let ride = Lent { events, supply: &case.supply, record: &mut record, answers: &mut proved, counts: lent.counts() };
+    let answer = library.ride(asked(case.limits), ride);
     let (opened, mut link) = Link::open(case.limits);
     let done = opened.and_then(|_| link.run(events, &case.supply, &mut expected, &mut here));
     answer_difference(answer, &done, || "ride".into())
         .or_else(|| answers_difference(&proved, &here, events))
         .or_else(|| record_difference(&record, &expected))
-        .or_else(|| counts_difference(&counts, &done))
+        .or_else(|| lent.difference(&done))
         .map(|text| format!("in one ride: {text}"))
 }

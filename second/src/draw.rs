@@ -1,6 +1,6 @@
 //! Random lists, the same for the same seed.
 
-use crate::compare::{rows, Call, Case};
+use crate::compare::{event_bytes, rows, Call, Case};
 use crate::draw_cells::{random_cells, ILLEGAL_EDGES};
 use crate::limits::{Limits, CELLS};
 use crate::random::Random;
@@ -81,8 +81,7 @@ fn cut(random: &mut Random, events: &[(u8, u8)]) -> Vec<Call> {
         if now.len() == 1 && !random.once_in(4) {
             calls.push(Call::One { kind: now[0].0, argument: now[0].1 });
         } else {
-            let bytes = now.iter().flat_map(|&(kind, argument)| [kind, argument]).collect();
-            calls.push(Call::Run { events: bytes, answers: now.len() + random.below(3) });
+            calls.push(Call::Run { events: event_bytes(now), answers: now.len() + random.below(3) });
         }
     }
     calls

@@ -7,6 +7,7 @@
 #![warn(missing_docs)]
 
 pub mod air;
+pub mod audit;
 pub mod built;
 pub mod checks;
 pub mod compare;
@@ -29,6 +30,7 @@ pub mod page_lists;
 #[cfg(feature = "proved")]
 pub mod proved;
 pub mod random;
+pub mod recount;
 pub mod report;
 pub mod ride_text;
 pub mod rides;

@@ -14,8 +14,26 @@ pub fn asked(limits: Limits) -> Asked {
     [u32::try_from(window).unwrap_or(u32::MAX), a, b, c, d]
 }
 
-/// Rows sent, acknowledged and recorded.
-pub type Rises = [usize; 3];
+/// The counts of a call by name, in the order in which the library writes them.
+pub const COUNT_NAMES: [&str; 11] = [
+    "sent",
+    "acknowledged",
+    "recorded",
+    "data_put",
+    "data_arrived",
+    "data_lost",
+    "data_dropped",
+    "reply_put",
+    "reply_arrived",
+    "reply_lost",
+    "reply_dropped",
+];
+
+/// The counts of a call as the library writes them.
+pub type CountNumbers = [u64; COUNT_NAMES.len()];
+
+/// The counts of a call that is refused, or that nothing was added to.
+pub const ZERO_COUNTS: CountNumbers = [0; COUNT_NAMES.len()];
 
 /// What a caller lends to a run.
 pub struct Lent<'a> {
@@ -27,8 +45,8 @@ pub struct Lent<'a> {
     pub record: &'a mut [u16],
     /// One byte for each event.
     pub answers: &'a mut [u8],
-    /// Rows sent, acknowledged and recorded.
-    pub counts: &'a mut Rises,
+    /// The counts.
+    pub counts: &'a mut CountNumbers,
 }
 
 /// The calls for a link that the caller keeps. Each gives the number of its answer.
@@ -37,7 +55,14 @@ pub trait Library: Sync {
     fn open(&self, link: &mut Matlink, asked: Asked) -> u8;
 
     /// A call for one event: kind and argument, which need not be bytes.
-    fn step(&self, link: &mut Matlink, event: (u32, u32), supply: &[u16], record: &mut [u16], counts: &mut Rises) -> u8;
+    fn step(
+        &self,
+        link: &mut Matlink,
+        event: (u32, u32),
+        supply: &[u16],
+        record: &mut [u16],
+        counts: &mut CountNumbers,
+    ) -> u8;
 
     /// A run.
     fn run(&self, link: &mut Matlink, lent: Lent) -> u8;
@@ -61,7 +86,9 @@ pub trait PageLibrary: Sync {
     fn write_page(&self, record: &[u16], page: u64, buffer: &mut [u8], count: &mut u64) -> u8;
 }
 
-/// The three counts as the library writes them.
-pub fn rises(counts: Counts) -> Rises {
-    [counts.sent, counts.acknowledged, counts.recorded]
+/// The counts as the library writes them.
+pub fn count_numbers(counts: Counts) -> CountNumbers {
+    let Counts { sent, acknowledged, recorded, data: d, replies: r } = counts;
+    [sent, acknowledged, recorded, d.put, d.arrived, d.lost, d.dropped, r.put, r.arrived, r.lost, r.dropped]
+        .map(|count| count as u64)
 }

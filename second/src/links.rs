@@ -2,49 +2,58 @@
 //! table, and the whole link is compared after it.
 
 use crate::compare::{Call, UNWRITTEN};
-use crate::differ::{Difference, Pair};
+use crate::differ::{AuditedPair, Pair};
 use crate::draw_cells::{random_cells, EDGES};
 use crate::draw_link::{drawn_link, random_kind};
 use crate::library::Library;
-use crate::limits::{CELLS, TABLE_PLACES};
+use crate::limits::{number, CELLS, TABLE_PLACES};
 use crate::matlink::{Matlink, DATA_WORDS, NUMBERS, REPLY_WORDS};
 use crate::members::{name, not_zero};
 use crate::met::Met;
 use crate::random::Random;
 use crate::report::{Outcome, Replay};
 use crate::ride_text::words;
+use crate::shrink::flat;
 use crate::threads::{seeds, sums, Amount};
 
-/// A call on a made-up link, with the buffers that are lent to it.
+/// Calls on a made-up link, with the buffers that are lent to them.
 #[derive(Clone)]
 struct Try {
     link: Matlink,
-    call: Call,
+    calls: Vec<Call>,
     supply: Vec<u16>,
     record: Vec<u16>,
 }
 
 impl Try {
-    fn put(&self, library: &dyn Library) -> (u8, Difference) {
-        Pair::made_up(self.link.clone(), &self.record).call(library, &self.call, &self.supply)
+    /// The number of the last call, or what differs after the first call that shows it.
+    fn put(&self, library: &dyn Library) -> Result<u8, String> {
+        let mut audited = AuditedPair::of(Pair::made_up(self.link.clone(), &self.record));
+        let mut answer = 0;
+        for call in &self.calls {
+            let (called, found) = audited.call(library, call, &self.supply);
+            found.map_or(Ok(()), Err)?;
+            answer = number(&called.done);
+        }
+        Ok(answer)
     }
 
     fn differs(&self, library: &dyn Library) -> bool {
-        self.put(library).1.is_some()
+        self.put(library).is_err()
     }
 
-    /// Where one event of a run differs by itself, that event on the link before it.
+    /// Where one event differs by itself, that event on the link before it.
     fn first_event(&self, library: &dyn Library) -> Option<Try> {
-        let Call::Run { events, .. } = &self.call else { return None };
         let mut pair = Pair::made_up(self.link.clone(), &self.record);
-        for event in events.as_chunks().0 {
-            let [kind, argument] = *event;
+        for (kind, argument) in flat(&self.calls) {
             let (sent, recorded) = (pair.total.sent * CELLS, pair.total.recorded * CELLS);
             let (link, record) = (pair.kept.link.clone(), pair.record[recorded..].to_vec());
             let call = Call::One { kind, argument };
-            if pair.call(library, &call, &self.supply).1.is_some() {
-                return Some(Try { link, call, supply: self.supply[sent..].to_vec(), record });
+            let one = Try { link, calls: vec![call.clone()], supply: self.supply[sent..].to_vec(), record };
+            if one.differs(library) {
+                return Some(one);
             }
+            pair.call(library, &call, &self.supply);
         }
         None
     }
@@ -70,14 +79,19 @@ impl Try {
         now
     }
 
-    /// Takes events out of a run.
+    /// Takes events out of runs, and then a run, left empty or not, out of the calls.
     fn fewer_events(&mut self, library: &dyn Library) {
-        let Call::Run { events, .. } = &self.call else { return };
-        for at in (0..events.len() / 2).rev() {
+        for call in (0..self.calls.len()).rev() {
+            let Call::Run { events, .. } = &self.calls[call] else { continue };
+            for at in (0..events.len() / 2).rev() {
+                self.attempt(library, |less| {
+                    if let Call::Run { events, .. } = &mut less.calls[call] {
+                        events.drain(2 * at..2 * at + 2);
+                    }
+                });
+            }
             self.attempt(library, |less| {
-                if let Call::Run { events, .. } = &mut less.call {
-                    events.drain(2 * at..2 * at + 2);
-                }
+                less.calls.remove(call);
             });
         }
     }
@@ -100,29 +114,35 @@ impl Try {
             *count -= 1;
             table[message * words..].rotate_left(words);
         }
-        if let Call::One { kind: 3 | 5 | 6 | 7, argument } = &mut self.call {
+        if let [Call::One { kind: 3 | 5 | 6 | 7, argument }] = &mut self.calls[..] {
             *argument = argument.saturating_sub(moved);
         }
     }
 
-    /// What differs, and the call and the link it differs on.
-    fn report(self, library: &dyn Library) -> String {
-        let given = self.put(library).1.unwrap_or_default();
+    /// What differs, and the calls and the link it differs on.
+    fn report(self, library: &dyn Library, given: String) -> String {
         let small = self.smallest(library);
-        let call = match &small.call {
-            Call::One { kind, argument } => words(*kind, *argument),
-            Call::Run { events, .. } => {
-                let events: Vec<String> = events.as_chunks().0.iter().map(|[k, a]| words(*k, *a)).collect();
-                format!("a run of {}", events.join(", "))
-            }
-        };
-        let (supply, record) = (small.supply.len(), small.record.len());
-        let found = small.put(library).1.unwrap_or_default();
+        let calls: Vec<String> = small.calls.iter().map(in_words).collect();
+        let (calls, supply, record) = (calls.join(", then "), small.supply.len(), small.record.len());
+        let found = small.put(library).err().unwrap_or_default();
         let link = not_zero(&small.link);
         format!(
             "{given}\nThe same on the smallest link: {found}\n\
-             call: {call}; supply of {supply} cells, record of {record} cells\nlink, numbers that are not 0:\n{link}"
+             calls: {calls}; supply of {supply} cells, record of {record} cells\nlink, numbers that are not 0:\n{link}"
         )
+    }
+}
+
+/// A call in words.
+fn in_words(call: &Call) -> String {
+    match call {
+        Call::One { kind, argument } => words(*kind, *argument),
+        Call::Run { events, .. } => {
+            let (events, half) = events.as_chunks();
+            let mut all: Vec<String> = events.iter().map(|[k, a]| words(*k, *a)).collect();
+            all.extend((!half.is_empty()).then(|| "half an event".into()));
+            format!("a run of {}", if all.is_empty() { "no event".into() } else { all.join(", ") })
+        }
     }
 }
 
@@ -156,12 +176,13 @@ fn record(random: &mut Random) -> Vec<u16> {
 
 /// A call for an event of this kind.
 fn one(random: &mut Random, link: &Matlink, kind: u8) -> Try {
-    let call = Call::One { kind, argument: argument(random, kind) };
-    Try { link: link.clone(), call, supply: supply(random), record: record(random) }
+    let calls = vec![Call::One { kind, argument: argument(random, kind) }];
+    Try { link: link.clone(), calls, supply: supply(random), record: record(random) }
 }
 
-/// A run of so many events, now and then with ticks enough for the longest wait, half an event or too few answers.
-fn run(random: &mut Random, link: &Matlink, length: usize) -> Try {
+/// Two runs of so many events together, now and then with ticks enough for the longest wait. The second one has, now and then,
+/// half an event or too few answers.
+fn runs(random: &mut Random, link: &Matlink, length: usize) -> Try {
     let mut events = vec![];
     let long = random.once_in(3);
     for _ in 0..length {
@@ -172,33 +193,28 @@ fn run(random: &mut Random, link: &Matlink, length: usize) -> Try {
     if random.once_in(30) {
         events.pop();
     }
-    let call = Call::Run { events, answers: length - usize::from(random.once_in(30)) };
-    Try { link: link.clone(), call, supply: supply(random), record: record(random) }
+    let short = usize::from(random.once_in(30));
+    let first = random.below(length);
+    let rest = Call::Run { events: events.split_off(2 * first), answers: length - first - short };
+    let calls = vec![Call::Run { events, answers: first }, rest];
+    Try { link: link.clone(), calls, supply: supply(random), record: record(random) }
 }
 
-/// Drawn links, each with a call for an event of every kind and with a run. Questions 13, 18 and 19 arise here.
+/// Drawn links, each with a call for an event of every kind and with two runs in a row. Questions 13, 18 and 19 arise here.
 pub fn made_up_links(library: &dyn Library, replay: &Replay, amount: Amount) -> Outcome {
     let met = seeds(amount, |seed, met: &mut Met| {
         let mut random = Random::new(seed);
         let link = Matlink::from(&drawn_link(&mut random));
         met.link(&link);
+        let failed = |tried: Try, found| replay.failed("links", seed, &tried.report(library, found));
+        let put = |tried: Try| tried.put(library).map_err(|found| failed(tried, found));
         let mut events = 0;
         for kind in (0..=9).chain([1, 2, 3, 4, 5, 255]) {
-            let tried = one(&mut random, &link, kind);
-            let (answer, found) = tried.put(library);
-            met.answer(kind, answer);
+            met.answer(kind, put(one(&mut random, &link, kind))?);
             events += 1;
-            if found.is_some() {
-                return Err(replay.failed("links", seed, &tried.report(library)));
-            }
         }
         let length = 1 + random.below(24);
-        let tried = run(&mut random, &link, length);
-        let (answer, found) = tried.put(library);
-        met.run(answer);
-        if found.is_some() {
-            return Err(replay.failed("links", seed, &tried.report(library)));
-        }
+        met.run(put(runs(&mut random, &link, length))?);
         Ok(events + length as u64)
     })?;
     let met = met.into_iter().reduce(Met::and).unwrap_or_default();
@@ -233,11 +249,10 @@ pub fn damaged_links(library: &dyn Library, replay: &Replay, amount: Amount) -> 
                 numbers[at] = value;
                 let kind = random_kind(&mut random);
                 let tried = one(&mut random, &Matlink::of_numbers(&numbers), kind);
-                let (answer, found) = tried.put(library);
-                if found.is_some() {
-                    let what = format!("{} replaced by {value}: {}", name(at), tried.report(library));
-                    return Err(replay.failed("damaged", seed, &what));
-                }
+                let answer = tried.put(library).map_err(|found| {
+                    let what = format!("{} replaced by {value}: {}", name(at), tried.report(library, found));
+                    replay.failed("damaged", seed, &what)
+                })?;
                 counted[0] += 1;
                 counted[1] += u64::from(answer == 4);
             }

@@ -1,7 +1,8 @@
 //! What a comparison met, above all on made-up links, so that one that leaves something out is found out.
 
-use crate::built::Link;
+use crate::built::{Counts, Link};
 use crate::compare::{rows, Case};
+use crate::library::{count_numbers, COUNT_NAMES};
 use crate::limits::TORN_CELL;
 use crate::matlink::{without_free, Matlink};
 use crate::shrink::flat;
@@ -111,44 +112,53 @@ pub struct Lists {
     sent: Accepted,
     /// Those with a resend wait of 0.
     wait_of_0: u64,
+    /// Their counts, added up.
+    counts: Counts,
 }
 
 impl Lists {
-    /// One more, in which so many rows were sent.
-    pub fn add(&mut self, case: &Case, sent: usize) {
+    /// One more, with its counts.
+    pub fn add(&mut self, case: &Case, counts: Counts) {
         self.lists += 1;
         self.calls += case.calls.len() as u64;
         self.events += flat(&case.calls).len() as u64;
-        rows(&case.supply)[..sent].iter().for_each(|row| self.sent.add(row));
+        rows(&case.supply)[..counts.sent].iter().for_each(|row| self.sent.add(row));
         self.wait_of_0 += u64::from(case.limits.resend_wait == 0);
+        self.counts.add(counts);
     }
 
     /// Both together.
     pub fn and(self, other: Lists) -> Lists {
+        let mut counts = self.counts;
+        counts.add(other.counts);
         Lists {
             lists: self.lists + other.lists,
             calls: self.calls + other.calls,
             events: self.events + other.events,
             sent: self.sent.and(other.sent),
             wait_of_0: self.wait_of_0 + other.wait_of_0,
+            counts,
         }
     }
 
-    /// Whether a resend wait was 0 and a torn cell was sent, where there were events enough.
+    /// Whether a resend wait was 0, a torn cell was sent and each count rose, where there were events enough.
     pub fn all_there(&self) -> Result<(), String> {
         let enough = self.events >= ENOUGH;
         if self.wait_of_0 == 0 && enough {
             return Err("lists: none with resend wait 0".into());
         }
+        let missing = COUNT_NAMES.iter().zip(count_numbers(self.counts)).find(|(_, count)| *count == 0 && enough);
+        missing.map_or(Ok(()), |(name, _)| Err(format!("lists: no {name}")))?;
         self.sent.all_there("lists", enough)
     }
 }
 
 impl fmt::Display for Lists {
     fn fmt(&self, out: &mut fmt::Formatter) -> fmt::Result {
-        let Lists { lists, calls, events, sent, wait_of_0 } = self;
+        let Lists { lists, calls, events, sent, wait_of_0, counts } = self;
         write!(out, "{lists} random lists in {calls} calls and {lists} rides, {events} events; rows sent {sent}; ")?;
-        write!(out, "{wait_of_0} lists with resend wait 0")
+        let counts = COUNT_NAMES.iter().zip(count_numbers(*counts)).map(|(name, count)| format!("{name}: {count}"));
+        write!(out, "{wait_of_0} lists with resend wait 0\n  counts  {}", counts.collect::<Vec<_>>().join(", "))
     }
 }
 

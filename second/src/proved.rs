@@ -1,9 +1,10 @@
-//! The proved static library (feature `proved`). An array is passed as a pointer, a slice as a pointer and a length.
+//! The proved static library (feature `proved`). An array is passed as a pointer, a slice as a pointer and a length; `counts` is
+//! a pointer to the first of eleven numbers, each as wide as a length.
 //!
 //! The functions of the C header but matlink_page are `static inline` and not in the library, so each call here lends as they do.
 //! What it lends it takes back whatever the answer is, so that a refused call that wrote something is found out.
 
-use crate::library::{Asked, FrameLibrary, Lent, Library, PageLibrary, Rises};
+use crate::library::{Asked, CountNumbers, FrameLibrary, Lent, Library, PageLibrary};
 use crate::matlink::{Matlink, MatlinkFrame};
 
 #[link(name = "exports", kind = "static")]
@@ -102,6 +103,13 @@ unsafe extern "C" {
     ) -> u8;
 }
 
+/// Counts as the library takes them. They are lent and not copied, so that a call that writes behind them is found out; this
+/// compiles only where both kinds of number are as wide.
+fn as_lengths(counts: &mut CountNumbers) -> *mut usize {
+    const { assert!(size_of::<usize>() == size_of::<u64>() && align_of::<usize>() == align_of::<u64>()) };
+    counts.as_mut_ptr().cast()
+}
+
 /// The library's calls. Each is handed arrays and slices that are whole and do not overlap, as it asks.
 pub struct Proved;
 
@@ -131,7 +139,14 @@ impl Library for Proved {
         answer
     }
 
-    fn step(&self, link: &mut Matlink, event: (u32, u32), supply: &[u16], record: &mut [u16], counts: &mut Rises) -> u8 {
+    fn step(
+        &self,
+        link: &mut Matlink,
+        event: (u32, u32),
+        supply: &[u16],
+        record: &mut [u16],
+        counts: &mut CountNumbers,
+    ) -> u8 {
         let mut head = link.head();
         let answer = unsafe {
             matlink_lent_step(
@@ -150,7 +165,7 @@ impl Library for Proved {
                 supply.len(),
                 record.as_mut_ptr(),
                 record.len(),
-                counts.as_mut_ptr(),
+                as_lengths(counts),
             )
         };
         link.set_head(head);
@@ -179,7 +194,7 @@ impl Library for Proved {
                 record.len(),
                 answers.as_mut_ptr(),
                 answers.len(),
-                counts.as_mut_ptr(),
+                as_lengths(counts),
             )
         };
         link.set_head(head);
@@ -204,7 +219,7 @@ impl Library for Proved {
                 record.len(),
                 answers.as_mut_ptr(),
                 answers.len(),
-                counts.as_mut_ptr(),
+                as_lengths(counts),
             )
         }
     }

@@ -144,7 +144,7 @@ impl Short {
             let mut pair = pair.clone();
             match pair.call(library, &Call::One { kind, argument }, &case.supply) {
                 (_, Some(_)) => After::Differs,
-                (0, None) => After::Done(pair),
+                (called, None) if called.done.is_ok() => After::Done(pair),
                 _ => After::Refused,
             }
         };

@@ -39,7 +39,7 @@ pub fn events(limits: &Limits) -> Vec<Event> {
 pub struct Unasked {
     /// Both ends.
     pub link: Link,
-    /// The rows sent, acknowledged and recorded.
+    /// The rows sent, acknowledged and recorded, without the accounts.
     pub total: Counts,
     /// The whole record.
     pub record: Vec<u16>,
@@ -52,10 +52,13 @@ impl Unasked {
         Unasked { link: Link::unasked(limits), total: Counts::default(), record }
     }
 
-    /// One event, with the whole supply. It puts all questions of an event, but not 4, which question 3 is a part of.
-    pub fn put(&mut self, (kind, argument): Event, supply: &[u16]) -> Result<(), Refusal> {
+    /// Puts one event to the ends and gives its counts. The supply is that of the whole list: the event gets the part behind the
+    /// rows sent so far. The questions of the event are put, but not 4, which question 3 is a part of, and not 6.
+    pub fn put(&mut self, (kind, argument): Event, supply: &[u16]) -> Result<Counts, Refusal> {
         let (rest, space) = (&supply[self.total.sent * CELLS..], &mut self.record[self.total.recorded * CELLS..]);
-        self.total.add(self.link.event(kind, argument, rest, space)?);
-        Ok(())
+        let mut counts = Counts::default();
+        self.link.event(kind, argument, rest, space, &mut counts)?;
+        self.total.add(counts.rows());
+        Ok(counts)
     }
 }

@@ -20,7 +20,7 @@ pub fn ride(limits: Limits) -> Result<String, String> {
     for event in events(&limits) {
         let before = ends.clone();
         let comment = match ends.put(event, &head.supply) {
-            Ok(()) => comment(event, &before, &ends),
+            Ok(_) => comment(event, &before, &ends),
             Err(refusal) => format!("refused {}", refusal as u8),
         };
         lines.push(format!("{:COLUMN$}# {comment}", words(event.0, event.1)));

@@ -1,6 +1,6 @@
 //! The proved trial program compared with the trial here, one process for each input.
 
-use crate::compare::{ones, Case};
+use crate::compare::{event_bytes, ones, Case};
 use crate::draw::random_case;
 use crate::limits::{Limits, CELLS};
 use crate::random::Random;
@@ -19,7 +19,7 @@ fn input_of(case: &Case) -> Vec<u8> {
     input.extend(resend_wait.to_le_bytes());
     input.push(rows as u8);
     input.extend(case.supply[..rows * CELLS].iter().flat_map(|cell| cell.to_le_bytes()));
-    input.extend(flat(&case.calls).iter().flat_map(|(kind, argument)| [*kind, *argument]));
+    input.extend(event_bytes(&flat(&case.calls)));
     input
 }
 

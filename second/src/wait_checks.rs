@@ -5,10 +5,10 @@
 //! timer of row 0 is 0 or too early.
 
 use crate::checks::{cut, limits_of};
-use crate::compare::{ones, Call, Case, UNWRITTEN};
-use crate::differ::{ride_difference, Pair};
+use crate::compare::{event_bytes, ones, Call, Case, UNWRITTEN};
+use crate::differ::{ride_difference, AuditedPair, Pair};
 use crate::library::Library;
-use crate::limits::{Limits, CELLS, LARGEST_WINDOW};
+use crate::limits::{number, Limits, CELLS, LARGEST_WINDOW};
 use crate::random::Random;
 use crate::report::{Outcome, Replay};
 use crate::short::{different_rows, Event};
@@ -109,17 +109,13 @@ fn resend(list: &[Event]) -> usize {
     list.iter().position(|event| *event == (2, 0)).expect("row 0 is sent again")
 }
 
-fn bytes(list: &[Event]) -> Vec<u8> {
-    list.iter().flat_map(|&(kind, argument)| [kind, argument]).collect()
-}
-
 impl Edge {
     /// A call for each event up to the reply's arrival behind the resend, and a run of the others. The record has space for one
     /// row more than are sent.
     pub fn case(&self) -> Case {
         let (first, rest) = self.list.split_at(resend(&self.list) + 2);
         let mut calls = ones(first);
-        calls.push(Call::Run { events: bytes(rest), answers: rest.len() });
+        calls.push(Call::Run { events: event_bytes(rest), answers: rest.len() });
         let supply = different_rows(2 * self.limits.window);
         let record = vec![UNWRITTEN; supply.len() + CELLS];
         Case { limits: self.limits, supply, record, calls }
@@ -127,20 +123,21 @@ impl Edge {
 
     /// The rows recorded, or what differs by calls or in one ride, or is not what the list is to show.
     pub fn recorded(&self, library: &dyn Library, case: &Case) -> Result<usize, String> {
-        let (mut pair, opened, found) = Pair::open(library, self.limits, &case.record);
+        let (pair, opened, found) = Pair::open(library, self.limits, &case.record);
         found.map_or(Ok(()), Err)?;
+        let mut audited = AuditedPair::of(pair);
         let mut answers = vec![];
         for call in &case.calls {
-            let (answer, found) = pair.call(library, call, &case.supply);
+            let (called, found) = audited.call(library, call, &case.supply);
             found.map_or(Ok(()), Err)?;
-            answers.push(answer);
+            answers.push(number(&called.done));
         }
-        ride_difference(library, case, &bytes(&self.list), self.list.len()).map_or(Ok(()), Err)?;
+        ride_difference(library, case, &event_bytes(&self.list), self.list.len()).map_or(Ok(()), Err)?;
         let answers = [opened, answers[resend(&self.list)]];
         if answers != self.shows.answers() {
             return Err(format!("the opening and the resend answer {answers:?}, which does not show {:?}", self.shows));
         }
-        Ok(pair.total.recorded)
+        Ok(audited.total().recorded)
     }
 }
 

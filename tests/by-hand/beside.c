@@ -84,7 +84,7 @@ static inline void one_event(struct matlink_counts *sum, size_t at) {
 }
 
 static uint8_t single_events(size_t batch) {
-    struct matlink_counts sum = {0, 0, 0};
+    struct matlink_counts sum = {0};
     size_t at;
     (void)batch;
     for (at = 0; at < event_count; at++) one_event(&sum, at);
@@ -121,7 +121,7 @@ static uint8_t take(struct wire *wire) {
 
 static uint8_t events_and_frames(size_t batch) {
     static struct wire data, reply;
-    struct matlink_counts sum = {0, 0, 0};
+    struct matlink_counts sum = {0};
     size_t at;
     uint8_t refused = 0;
     (void)batch;

@@ -24,7 +24,7 @@ echo "all crates, one at a time: $SECONDS s"
 lines() { echo "$1: $(cat "${@:2}" | grep -cvE '^ *(--.*)?$|^use |^pub mod ')"; }
 specs() { for c in "$@"; do find "crates/$c/specs" -name '*.antt' ! -name Laws.antt; done; } # Laws are proofs
 lines 'a ride' $(specs limits unbounded ride | grep -v /Waits.antt) # what a wait of 0 stands for is said by `accepted`
-lines 'the link and demand 3' crates/events/specs/{State,Rules,View}.antt $(specs lists runs link) $(specs agreement)
+lines 'the link and demand 3' crates/events/specs/{State,Counts,Rules,Account,View}.antt $(specs lists runs link) $(specs agreement)
 lines 'the least wait' crates/limits/specs/Waits.antt $(specs leastwait)
 lines 'the parts' $(specs tables air mat pad)
 lines 'frames' $(specs buffers frames)

@@ -1,3 +1,4 @@
 pub mod Laws
 pub mod Theorem
 pub mod Torn
+pub mod Balance

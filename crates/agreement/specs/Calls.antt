@@ -8,7 +8,7 @@ use Rattle.limits.specs.Questions.{pick, first_no}
 use Rattle.limits.specs.Events.{Event, event, events}
 use Rattle.events.specs.declared.Link.{Link}
 use Rattle.events.specs.declared.Counts.{Counts}
-use Rattle.events.specs.State.{no_counts, risen, added}
+use Rattle.events.specs.Counts.{no_counts, risen, added}
 use Rattle.runs.specs.View.{Stepped, Ran, whole_rows, lent_questions}
 
 -- a run with its event bytes and the contents of its answer buffer, or a single event

@@ -4,7 +4,7 @@ ghost use Rattle.std.specs.Prelude.{◌≡◌, true, ◌+◌, ◌*◌, ◌<◌, 
 ghost use Rattle.limits.specs.declared.Limits.{Limits};
 ghost use Rattle.limits.specs.Limits.{sound_limits};
 ghost use Rattle.limits.specs.Questions.{Answered};
-ghost use Rattle.limits.specs.Tables.{capacity, on_body, put, remove, age};
+ghost use Rattle.limits.specs.Tables.{capacity, on_body, put, remove, age, expired};
 ghost use Rattle.tables.specs.Words.{message_at};
 ghost use Rattle.air.specs.Rules.{place_questions};
 ghost use Rattle.air.specs.Forms.{sound_of, sound_table};
@@ -102,13 +102,16 @@ impl<M: Roomy<N>, const N: usize> LentTable<'_, M, N> {
         self.count -= 1;
     }
 
-    // Lives fall by d, and messages with no life left go.
-    pub fn age(&mut self, d: u16)
+    // Lives fall by d, and messages with no life left go. Returns how many these are.
+    pub fn age(&mut self, d: u16) -> usize
         requires { self.old.count ≤ 32 }
         ensures lent { StaysLent self.old self.new }
         ensures aged { (l : Limits) → sound_in M.form l (lent_table self.old) ≡ true
             → HoldsIn M.form l (lent_table self.new) (age d (table_messages M.form (lent_table self.old))) }
+        ensures expired { result ≡ expired d (table_messages M.form (lent_table self.old)) }
     {
-        self.count = tables::age(self.words, M::WIDTH, self.count, d);
+        let count = self.count;
+        self.count = tables::age(self.words, M::WIDTH, count, d);
+        count - self.count
     }
 }

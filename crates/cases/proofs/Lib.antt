@@ -1,3 +1,4 @@
 pub mod Cases
 pub mod Decoding
 pub mod Torn
+pub mod Account

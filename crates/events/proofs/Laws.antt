@@ -1,7 +1,9 @@
 pub mod Parts
 pub mod Ends
 pub mod Rises
+pub mod Sums
 pub mod Counting
+pub mod Balancing
 pub mod Messages
 pub mod Tables
 pub mod Sending

@@ -10,8 +10,10 @@ use Rattle.air.specs.Data.{data_messages, sound_data_table}
 use Rattle.air.specs.Replies.{reply_messages, sound_reply_table}
 use Rattle.events.specs.declared.Link.{Link}
 use Rattle.events.specs.declared.Counts.{Counts}
-use Rattle.events.specs.State.{LinkState, added}
+use Rattle.events.specs.State.{LinkState}
+use Rattle.events.specs.Counts.{Account, added}
 use Rattle.events.specs.Rules.{questions, acted}
+use Rattle.events.specs.Account.{counted}
 
 unfoldable pub link_state : Link → LinkState
 link_state k =
@@ -36,22 +38,19 @@ abbrev pub LinkCall : {A : Type 0} → List Question → LinkState × List ℕ �
 LinkCall questions left value k before k' after r =
     Changed {S = Link × List ℕ} questions r value (link_state k', after) left (λ x. sound_link x.0) (k, before) (k', after)
 
--- What an event of a sound link promises that has `value` to tell. `before` and `after` are the record's contents at
--- entry and at exit.
-abbrev pub Moves : {A : Type 0} → Link → List ℕ → List ℕ → List ℕ → Event → A → Link → Result A Refusal → Type 0
-Moves k supply before after e value k' r =
-    let moved = acted supply before (link_state k) e in
-    LinkCall (questions supply (length before) (link_state k) e) (moved.state, moved.buffer) value k before k' after r
-
--- What an event of a sound link promises that is counted, where `counts` are the counts before it and `counts'` those behind it. Refused,
--- it leaves them, too, as they were.
+-- What an event of a sound link promises that is counted, where `counts` are the counts before it and `counts'` those after
+-- it; `before` and `after` are the record's contents at entry and at exit. Refused, it leaves the counts, too, as they were.
 abbrev pub Counted : Link → List ℕ → List ℕ → List ℕ → Counts → Event → Link → Counts → Answer → Type 0
 Counted k supply before after counts e k' counts' r =
     let moved = acted supply before (link_state k) e in
     Changed {S = Link × List ℕ × Counts} {V = LinkState × List ℕ × Counts} (questions supply (length before) (link_state k) e) r tt
-    (link_state k', after, counts') (moved.state, moved.buffer, added counts moved.counts) (λ x. sound_link x.0)
+    (link_state k', after, counts') (moved.state, moved.buffer, added counts (counted supply before (link_state k) e)) (λ x. sound_link x.0)
     (k, before, counts) (k', after, counts')
 
 -- each count has room for what one event adds
+abbrev pub AccountRoom : Account → Type 0
+AccountRoom a = (a.put + 32 < 2 ^ 64) × (a.arrived + 32 < 2 ^ 64) × (a.lost + 32 < 2 ^ 64) × (a.dropped + 32 < 2 ^ 64)
+
 abbrev pub HasRoom : Counts → Type 0
-HasRoom n = (n.sent + 32 < 2 ^ 64) × (n.acknowledged + 32 < 2 ^ 64) × (n.recorded + 32 < 2 ^ 64)
+HasRoom n =
+    (n.sent + 32 < 2 ^ 64) × (n.acknowledged + 32 < 2 ^ 64) × (n.recorded + 32 < 2 ^ 64) × AccountRoom n.datas × AccountRoom n.replies

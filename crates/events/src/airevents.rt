@@ -1,10 +1,10 @@
 // Inner: called by `act` (event). The events of the air: a message is lost, time passes. The link passed question 4.
 ghost use Rattle.std.specs.Prelude.{◌≡◌, true, List, ℕ, Ok};
 ghost use Rattle.limits.specs.Events.{lose_data, lose_reply, tick};
-ghost use Rattle.events.specs.View.{sound_link, Moves};
+ghost use Rattle.events.specs.View.{sound_link, HasRoom, Counted};
 ghost use Rattle.events.specs.Lent.{lent_link, StaysLent};
 
-use crate::LentLink;
+use crate::{Counts, LentLink};
 use air::lent::LentTable;
 use limits::answer::Refusal;
 use limits::messages::{Data, Reply};
@@ -15,14 +15,14 @@ use std::marker::PhantomData;
 impl LentLink<'_> {
     // Message p leaves the data table: 17.
     // Stays (no plainer): this event and the next are two of document 01, each with a table of its own.
-    pub fn lose_data(&mut self, p: usize) -> Result<(), Refusal>
-        requires { sound_link (lent_link self.old) ≡ true }
+    pub fn lose_data(&mut self, p: usize, counts: &mut Counts) -> Result<(), Refusal>
+        requires { (sound_link (lent_link self.old) ≡ true) × HasRoom counts.old }
         ensures lent { StaysLent self.old self.new }
         ensures untouched { (self.new.marks.now ≡ self.old.marks.now) × (self.new.mattimers.now ≡ self.old.mattimers.now)
             × (self.new.matcells.now ≡ self.old.matcells.now) × (self.new.held.now ≡ self.old.held.now)
             × (self.new.padtimers.now ≡ self.old.padtimers.now) × (self.new.padcells.now ≡ self.old.padcells.now)
             × (self.new.replies.now ≡ self.old.replies.now) }
-        ensures moves { (supply b : List ℕ) → Moves (lent_link self.old) supply b b (lose_data p) (tt {0}) (lent_link self.new) result }
+        ensures counted { (supply b : List ℕ) → Counted (lent_link self.old) supply b b counts.old (lose_data p) (lent_link self.new) counts.new result }
     {
         if self.numbers.datas <= p {
             return Err(Refusal::NoMessage);
@@ -30,18 +30,19 @@ impl LentLink<'_> {
         let mut datas = lend_datas!(self);
         datas.remove(p);
         self.numbers.datas = datas.count;
+        counts.datas.lost += 1;
         Ok(())
     }
 
     // Message p leaves the reply table: 17.
-    pub fn lose_reply(&mut self, p: usize) -> Result<(), Refusal>
-        requires { sound_link (lent_link self.old) ≡ true }
+    pub fn lose_reply(&mut self, p: usize, counts: &mut Counts) -> Result<(), Refusal>
+        requires { (sound_link (lent_link self.old) ≡ true) × HasRoom counts.old }
         ensures lent { StaysLent self.old self.new }
         ensures untouched { (self.new.marks.now ≡ self.old.marks.now) × (self.new.mattimers.now ≡ self.old.mattimers.now)
             × (self.new.matcells.now ≡ self.old.matcells.now) × (self.new.held.now ≡ self.old.held.now)
             × (self.new.padtimers.now ≡ self.old.padtimers.now) × (self.new.padcells.now ≡ self.old.padcells.now)
             × (self.new.datas.now ≡ self.old.datas.now) }
-        ensures moves { (supply b : List ℕ) → Moves (lent_link self.old) supply b b (lose_reply p) (tt {0}) (lent_link self.new) result }
+        ensures counted { (supply b : List ℕ) → Counted (lent_link self.old) supply b b counts.old (lose_reply p) (lent_link self.new) counts.new result }
     {
         if self.numbers.replies <= p {
             return Err(Refusal::NoMessage);
@@ -49,24 +50,25 @@ impl LentLink<'_> {
         let mut replies = lend_replies!(self);
         replies.remove(p);
         self.numbers.replies = replies.count;
+        counts.replies.lost += 1;
         Ok(())
     }
 
     // Time passes by d ticks.
-    pub fn tick(&mut self, d: u16)
-        requires { sound_link (lent_link self.old) ≡ true }
+    pub fn tick(&mut self, d: u16, counts: &mut Counts)
+        requires { (sound_link (lent_link self.old) ≡ true) × HasRoom counts.old }
         ensures lent { StaysLent self.old self.new }
         ensures untouched { (self.new.marks.now ≡ self.old.marks.now) × (self.new.matcells.now ≡ self.old.matcells.now)
             × (self.new.held.now ≡ self.old.held.now) × (self.new.padcells.now ≡ self.old.padcells.now) }
-        ensures moves { (supply b : List ℕ) → Moves (lent_link self.old) supply b b (tick d) (tt {0}) (lent_link self.new) (Ok (tt {0})) }
+        ensures counted { (supply b : List ℕ) → Counted (lent_link self.old) supply b b counts.old (tick d) (lent_link self.new) counts.new (Ok (tt {0})) }
     {
         lend_mat!(self).tick(self.limits, d);
         lend_pad!(self).tick(self.limits, d);
         let mut datas = lend_datas!(self);
-        datas.age(d);
+        counts.datas.dropped += datas.age(d);
         self.numbers.datas = datas.count;
         let mut aged = lend_replies!(self);
-        aged.age(d);
+        counts.replies.dropped += aged.age(d);
         self.numbers.replies = aged.count;
     }
 }

@@ -57,14 +57,14 @@ impl LentLink<'_> {
     {
         match event {
             Event::Send => self.send(supply, counts),
-            Event::Resend(k) => self.resend(k),
-            Event::ArriveData(p) => self.arrive_data(p),
+            Event::Resend(k) => self.resend(k, counts),
+            Event::ArriveData(p) => self.arrive_data(p, counts),
             Event::Reply => self.reply(record, counts),
             Event::ArriveReply(p) => self.arrive_reply(p, counts),
-            Event::LoseData(p) => self.lose_data(p),
-            Event::LoseReply(p) => self.lose_reply(p),
+            Event::LoseData(p) => self.lose_data(p, counts),
+            Event::LoseReply(p) => self.lose_reply(p, counts),
             Event::Tick(d) => {
-                self.tick(d);
+                self.tick(d, counts);
                 Ok(())
             }
         }

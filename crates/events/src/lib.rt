@@ -94,10 +94,21 @@ pub struct LentLink<'a> {
     pub replies: &'a mut [u16; 96],
 }
 
-// By how many rows sent, acknowledged and recorded rose.
+// How many messages were put in a table, arrived, were lost, and were dropped as their life was over.
+#[derive(Clone, Copy, Default)]
+pub struct Account {
+    pub put: usize,
+    pub arrived: usize,
+    pub lost: usize,
+    pub dropped: usize,
+}
+
+// By how many rows sent, acknowledged and recorded rose, and the accounts of the two tables.
 #[derive(Clone, Copy, Default)]
 pub struct Counts {
     pub sent: usize,
     pub acknowledged: usize,
     pub recorded: usize,
+    pub datas: Account,
+    pub replies: Account,
 }

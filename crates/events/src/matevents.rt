@@ -1,7 +1,7 @@
 // Inner: called by `act` (event). The events at the mat: send, resend, a reply arrives. The link passed question 4.
 ghost use Rattle.std.specs.Prelude.{◌≡◌, true, List, ℕ};
 ghost use Rattle.limits.specs.Events.{send, resend, arrive_reply};
-ghost use Rattle.events.specs.View.{sound_link, HasRoom, Moves, Counted};
+ghost use Rattle.events.specs.View.{sound_link, HasRoom, Counted};
 ghost use Rattle.events.specs.Lent.{lent_link, StaysLent};
 
 use crate::{Counts, LentLink};
@@ -32,17 +32,18 @@ impl LentLink<'_> {
         datas.put(self.limits, data);
         self.numbers.datas = datas.count;
         counts.sent += 1;
+        counts.datas.put += 1;
         Ok(())
     }
 
     // The kept row oldest + k is sent again: 14, 15, 16, 13.
-    pub fn resend(&mut self, k: usize) -> Result<(), Refusal>
-        requires { sound_link (lent_link self.old) ≡ true }
+    pub fn resend(&mut self, k: usize, counts: &mut Counts) -> Result<(), Refusal>
+        requires { (sound_link (lent_link self.old) ≡ true) × HasRoom counts.old }
         ensures lent { StaysLent self.old self.new }
         ensures untouched { (self.new.marks.now ≡ self.old.marks.now) × (self.new.matcells.now ≡ self.old.matcells.now)
             × (self.new.held.now ≡ self.old.held.now) × (self.new.padtimers.now ≡ self.old.padtimers.now)
             × (self.new.padcells.now ≡ self.old.padcells.now) × (self.new.replies.now ≡ self.old.replies.now) }
-        ensures moves { (supply b : List ℕ) → Moves (lent_link self.old) supply b b (resend k) (tt {0}) (lent_link self.new) result }
+        ensures counted { (supply b : List ℕ) → Counted (lent_link self.old) supply b b counts.old (resend k) (lent_link self.new) counts.new result }
     {
         let mut mat = lend_mat!(self);
         let number = mat.due(self.limits, k)?;
@@ -53,6 +54,7 @@ impl LentLink<'_> {
         let again = mat.again(self.limits, number);
         datas.put(self.limits, again);
         self.numbers.datas = datas.count;
+        counts.datas.put += 1;
         Ok(())
     }
 
@@ -73,6 +75,7 @@ impl LentLink<'_> {
         replies.remove(p);
         self.numbers.replies = replies.count;
         counts.acknowledged += acknowledged;
+        counts.replies.arrived += 1;
         Ok(())
     }
 }

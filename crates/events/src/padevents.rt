@@ -1,8 +1,8 @@
 // Inner: called by `act` (event). The events at the pad: data arrives, a reply for the run at wanted. The link passed
 // question 4.
-ghost use Rattle.std.specs.Prelude.{◌≡◌, true, List, [], ℕ, ◌*◌, ◌<◌};
+ghost use Rattle.std.specs.Prelude.{◌≡◌, true, List, ℕ, ◌*◌, ◌<◌};
 ghost use Rattle.limits.specs.Events.{arrive_data, reply};
-ghost use Rattle.events.specs.View.{sound_link, HasRoom, Moves, Counted};
+ghost use Rattle.events.specs.View.{sound_link, HasRoom, Counted};
 ghost use Rattle.events.specs.Lent.{lent_link, StaysLent, OldTaken};
 
 use crate::{Counts, LentLink};
@@ -39,22 +39,26 @@ impl LentLink<'_> {
     }
 
     // Message p arrives at the pad and leaves the data table: 17, and for an old row 18.
-    pub fn arrive_data(&mut self, p: usize) -> Result<(), Refusal>
-        requires { sound_link (lent_link self.old) ≡ true }
+    pub fn arrive_data(&mut self, p: usize, counts: &mut Counts) -> Result<(), Refusal>
+        requires { (sound_link (lent_link self.old) ≡ true) × HasRoom counts.old }
         ensures lent { StaysLent self.old self.new }
         ensures untouched { (self.new.marks.now ≡ self.old.marks.now) × (self.new.mattimers.now ≡ self.old.mattimers.now)
             × (self.new.matcells.now ≡ self.old.matcells.now) }
-        ensures moves { (supply b : List ℕ) → Moves (lent_link self.old) supply b b (arrive_data p) (tt {0}) (lent_link self.new) result }
+        ensures counted { (supply b : List ℕ) → Counted (lent_link self.old) supply b b counts.old (arrive_data p) (lent_link self.new) counts.new result }
     {
         let data = lend_datas!(self).find(p)?;
         let mut pad = lend_pad!(self);
         if !pad.in_window(self.limits, data.number) {
-            return self.take_old(p, data.number);
+            self.take_old(p, data.number)?;
+            counts.datas.arrived += 1;
+            counts.replies.put += 1;
+            return Ok(());
         }
         pad.hold(self.limits, data);
         let mut taken = lend_datas!(self);
         taken.remove(p);
         self.numbers.datas = taken.count;
+        counts.datas.arrived += 1;
         Ok(())
     }
 
@@ -81,6 +85,7 @@ impl LentLink<'_> {
         replies.put(self.limits, run);
         self.numbers.replies = replies.count;
         counts.recorded += count;
+        counts.replies.put += 1;
         Ok(())
     }
 }

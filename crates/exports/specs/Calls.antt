@@ -1,5 +1,5 @@
 -- What the functions for C promise: the number they return, and the whole contents at exit of everything that is lent.
-use Rattle.std.specs.Prelude.{ℕ, ◌%◌, ◌*◌, ◌≡◌, ◌&&◌, List, [], ◌∷◌, leb, drop, Result, Ok, Err}
+use Rattle.std.specs.Prelude.{ℕ, ◌%◌, ◌*◌, ◌≡◌, ◌&&◌, List, [], ◌∷◌, ◌++◌, leb, drop, Result, Ok, Err}
 use Rattle.limits.specs.declared.answer.Refusal.{Refusal}
 use Rattle.events.specs.declared.Link.{Link}
 use Rattle.limits.specs.declared.Limits.{Limits}
@@ -7,7 +7,7 @@ use Rattle.limits.specs.Answer.{number_of}
 use Rattle.limits.specs.Limits.{zero_limits}
 use Rattle.limits.specs.Questions.{pick}
 use Rattle.events.specs.declared.Counts.{Counts}
-use Rattle.events.specs.State.{risen}
+use Rattle.events.specs.Counts.{Account, risen}
 use Rattle.runs.specs.View.{Stepped, Ran}
 use Rattle.link.specs.View.{fresh_link, Opened}
 use Rattle.agreement.specs.Calls.{Made, Line, following, Met}
@@ -43,8 +43,12 @@ pub record OpenCall (l : Limits) (after : CLink) (r : ℕ) : Type 0 where
   pub number : r ≡ number_of opening
   pub left : after ≡ stored (link_or_zeros opening)
 
+abbrev pub account_list : Account → List ℕ
+account_list a = a.put ∷ a.arrived ∷ a.lost ∷ a.dropped ∷ []
+
+-- the rows, the data table's account, the reply table's account
 abbrev pub counts_list : Counts → List ℕ
-counts_list n = n.sent ∷ n.acknowledged ∷ n.recorded ∷ []
+counts_list n = n.sent ∷ n.acknowledged ∷ n.recorded ∷ (account_list n.datas ++ account_list n.replies)
 
 -- What a call leaves of a link in C whose answer was `answer` and whose link `k`: the counts, and where it was done the new link;
 -- where it was refused everything is as before.

@@ -4,7 +4,7 @@
 
 ghost use Rattle.std.specs.Prelude.{◌≡◌};
 ghost use Rattle.limits.specs.Answer.{number_of};
-ghost use Rattle.events.specs.State.{risen};
+ghost use Rattle.events.specs.Counts.{risen};
 ghost use Rattle.clinks.specs.Links.{clink_of, StaysLent, numbers_fit, written};
 ghost use Rattle.exports.specs.Calls.{capped, asked, limits_or_zeros, kind_of, counts_list, OpenCall, StepCall, RunCall, RideCall};
 
@@ -111,12 +111,29 @@ fn write_back(
     *link.padmark = clinks::bits_of(held);
 }
 
+// The counts as C has them: rows sent, acknowledged and recorded, and of each table, data and replies, the messages put, arrived, lost
+// and dropped.
+pub type CCounts = [usize; 11];
+
 // The counts of an answer, and its number.
-fn told(answer: Result<Counts, Refusal>, counts: &mut [usize; 3]) -> u8
+fn told(answer: Result<Counts, Refusal>, counts: &mut CCounts) -> u8
     ensures { (counts.new ≡ counts_list (risen answer)) × (result ≡ number_of answer) }
 {
     let n = answer.unwrap_or_default();
-    *counts = [n.sent, n.acknowledged, n.recorded];
+    let (d, r) = (n.datas, n.replies);
+    *counts = [
+        n.sent,
+        n.acknowledged,
+        n.recorded,
+        d.put,
+        d.arrived,
+        d.lost,
+        d.dropped,
+        r.put,
+        r.arrived,
+        r.lost,
+        r.dropped,
+    ];
     limits::answer::number(&answer)
 }
 
@@ -128,7 +145,7 @@ pub fn step(
     argument: u32,
     supply: &[u16],
     record: &mut [u16],
-    counts: &mut [usize; 3],
+    counts: &mut CCounts,
 ) -> u8
     ensures lent { StaysLent link.old link.new }
     ensures stepped { StepCall kind argument supply.now «record».old «record».new (clink_of link.old) (clink_of link.new) counts.new result }
@@ -162,7 +179,7 @@ pub fn run(
     supply: &[u16],
     record: &mut [u16],
     answers: &mut [u8],
-    counts: &mut [usize; 3],
+    counts: &mut CCounts,
 ) -> u8
     ensures lent { StaysLent link.old link.new }
     ensures ran { RunCall events.now supply.now «record».old «record».new answers.old answers.new
@@ -190,7 +207,7 @@ pub fn ride(
     supply: &[u16],
     record: &mut [u16],
     answers: &mut [u8],
-    counts: &mut [usize; 3],
+    counts: &mut CCounts,
 ) -> u8
     ensures { RideCall asked events.now supply.now «record».old «record».new answers.old answers.new counts.new result }
 {

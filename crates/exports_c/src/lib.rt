@@ -8,6 +8,7 @@ pub mod cframe;
 pub mod cpage;
 
 use clinks::LentCLink;
+use exports::CCounts;
 
 // Stays (C interface): a program in C hands the parts of its struct over one by one.
 #[unsafe(no_mangle)]
@@ -62,7 +63,7 @@ pub extern "C" fn matlink_lent_step(
     argument: u32,
     supply: &[u16],
     record: &mut [u16],
-    counts: &mut [usize; 3],
+    counts: &mut CCounts,
 ) -> u8
     ensures { StepCall kind argument supply.now «record».old «record».new
         (clink head.old matmark.old mattimer.old matcell.old
@@ -100,7 +101,7 @@ pub extern "C" fn matlink_lent_run(
     supply: &[u16],
     record: &mut [u16],
     answers: &mut [u8],
-    counts: &mut [usize; 3],
+    counts: &mut CCounts,
 ) -> u8
     ensures { RunCall events.now supply.now «record».old «record».new answers.old answers.new
         (clink head.old matmark.old mattimer.old matcell.old
@@ -134,7 +135,7 @@ pub extern "C" fn matlink_lent_ride(
     supply: &[u16],
     record: &mut [u16],
     answers: &mut [u8],
-    counts: &mut [usize; 3],
+    counts: &mut CCounts,
 ) -> u8
     ensures { RideCall (asked window datalife replylife replywait resendwait) events.now supply.now
         «record».old «record».new answers.old answers.new counts.new result }

@@ -9,3 +9,5 @@ pub mod Promise
 pub mod Messages
 pub mod Questions
 pub mod Made
+pub mod Sizes
+pub mod Events

@@ -16,6 +16,11 @@ unfoldable pub leading : {A : Type 0} → (A → Bool) → List A → ℕ
 leading p [] = 0
 leading p (x ∷ xs) = pick (p x) (leading p xs + 1) 0
 
+-- how many elements pass the test
+unfoldable pub how_many : {A : Type 0} → (A → Bool) → List A → ℕ
+how_many p [] = 0
+how_many p (x ∷ xs) = pick (p x) (how_many p xs + 1) (how_many p xs)
+
 -- the lists one behind the other
 unfoldable pub joined : {A : Type 0} → List (List A) → List A
 joined [] = []

@@ -4,6 +4,7 @@ use Rattle.limits.specs.declared.Limits.{Limits}
 use Rattle.limits.specs.declared.messages.Data as data_type
 use Rattle.limits.specs.declared.messages.Reply as reply_type
 use Rattle.limits.specs.declared.messages.Message as message_type
+use Rattle.limits.specs.Lists.{how_many}
 use Rattle.limits.specs.Questions.{pick}
 use Rattle.limits.specs.Cells.{legal_row}
 use Rattle.limits.specs.Ring.{distance}
@@ -54,6 +55,10 @@ on_body g m = record { body = g m.body; life = m.life }
 unfoldable pub age : {B : Type 0} → ℕ → List (Message B) → List (Message B)
 age d [] = []
 age d (m ∷ ms) = pick (leb m.life d) (age d ms) (aged d m ∷ age d ms)
+
+-- how many messages have no life left after d ticks
+abbrev pub expired : {B : Type 0} → ℕ → List (Message B) → ℕ
+expired d ms = how_many (λ m. leb m.life d) ms
 
 -- how many numbers a reply covers, read on from first to last
 abbrev pub span : ℕ → Reply → ℕ

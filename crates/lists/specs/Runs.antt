@@ -1,7 +1,7 @@
 -- A list of events, one after the other. Each works on the unsent rest of the supply and the unwritten rest of the record.
 use Rattle.std.specs.Prelude.{ℕ, ◌*◌, List, [], ◌∷◌, ◌++◌, take, drop}
 use Rattle.limits.specs.Events.{Event}
-use Rattle.events.specs.State.{Moved, added}
+use Rattle.events.specs.State.{Moved, more_rows}
 use Rattle.events.specs.Rules.{answer, stepped}
 
 abbrev pub supply_left : List ℕ → Moved → List ℕ
@@ -15,7 +15,7 @@ unfoldable pub continued : Moved → Moved → Moved
 continued x y =
     record {
       state = y.state;
-      counts = added x.counts y.counts;
+      counts = more_rows x.counts y.counts;
       buffer = take (16 * x.counts.recorded) x.buffer ++ y.buffer;
     }
 

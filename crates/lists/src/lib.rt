@@ -21,7 +21,7 @@ pub fn run_events(
     requires { (sound_link (lent_link link.old) ≡ true) × (length events.now % 2 ≡ 0) × (length events.now / 2 ≤ length answers.old) }
     ensures lent { StaysLent link.old link.new }
     ensures sound { sound_link (lent_link link.new) ≡ true }
-    ensures ran { record { moved = record { state = link_state (lent_link link.new); counts = result; buffer = «record».new }; answers = answers.new }
+    ensures ran { record { state = link_state (lent_link link.new); counts = result; buffer = «record».new; answers = answers.new }
         ≡ running (lent_link link.old) events.now supply.now «record».old answers.old }
     ensures still { all refuses (take (length events.now / 2) answers.new) ≡ true → lent_link link.new ≡ lent_link link.old }
 {

@@ -1,4 +1,4 @@
-// A link opened and run from fresh on lent slices, promised against the unbounded ends.
+// A link opened and run from fresh on lent slices, promised against the unbounded ends but for the account of the air, which they do not keep.
 #![tactic(auto)]
 
 ghost use Rattle.ride.specs.Ride.{Rode};

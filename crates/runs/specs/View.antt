@@ -8,6 +8,7 @@ use Rattle.events.specs.declared.Link.{Link}
 use Rattle.events.specs.declared.Counts.{Counts}
 use Rattle.events.specs.State.{LinkState}
 use Rattle.events.specs.Rules.{questions, acted}
+use Rattle.events.specs.Account.{counted}
 use Rattle.events.specs.View.{link_state, sound_link, LinkCall}
 use Rattle.lists.specs.View.{Run, refuses, running}
 
@@ -18,8 +19,8 @@ whole_rows supply = ask 6 (eqb (length supply % 16) 0) ∷ []
 abbrev pub Stepped : Link → ℕ → ℕ → List ℕ → List ℕ → List ℕ → Link → Result Counts Refusal → Type 0
 Stepped k kind argument supply before after k' r =
     let moved = acted supply before (link_state k) (event kind argument) in
-    LinkCall (ask 4 (sound_link k) ∷ (whole_rows supply ++ questions supply (length before) (link_state k) (event kind argument))) (moved.state, moved.buffer) moved.counts
-    k before k' after r
+    LinkCall (ask 4 (sound_link k) ∷ (whole_rows supply ++ questions supply (length before) (link_state k) (event kind argument))) (moved.state, moved.buffer)
+    (counted supply before (link_state k) (event kind argument)) k before k' after r
 
 -- 5, 6 and 7, of the lengths of what is lent to a run: event bytes, cells of supply, answer bytes
 abbrev pub lent_asks : ℕ → ℕ → ℕ → List Question
@@ -34,7 +35,7 @@ lent_questions bytes supply answer_buffer = lent_asks (length bytes) (length sup
 abbrev pub RunCall : Run → Link → List ℕ → List ℕ → List ℕ → List ℕ → Link → List ℕ → List ℕ → Result Counts Refusal → Type 0
 RunCall done k bytes supply before answers_before k' after answers_after r =
     Changed {S = Link × List ℕ × List ℕ} {V = LinkState × List ℕ × List ℕ} (ask 4 (sound_link k) ∷ lent_questions bytes supply answers_before) r
-    done.moved.counts (link_state k', after, answers_after) (done.moved.state, done.moved.buffer, done.answers) (λ x. sound_link x.0)
+    done.counts (link_state k', after, answers_after) (done.state, done.buffer, done.answers) (λ x. sound_link x.0)
     (k, before, answers_before) (k', after, answers_after)
 
 -- Where every event was refused the link is as it was, its free parts too.

@@ -4,9 +4,9 @@
 //! `bench second N` do ride N once; their work stands in matlink_lent_run and in second_run. `bench page ROWS P` writes page P of
 //! a record of so many rows by both; their work stands in matlink_page and in second_page.
 
-use second::built::Link;
+use second::built::{Counts, Link};
 use second::draw_cells::random_cells;
-use second::library::{asked, Lent, Library, PageLibrary, Rises};
+use second::library::{asked, count_numbers, CountNumbers, Lent, Library, PageLibrary, ZERO_COUNTS};
 use second::limits::{Refusal, CELLS};
 use second::matlink::Matlink;
 use second::page::page;
@@ -28,7 +28,7 @@ struct Buffers {
     link: Link,
     record: Vec<u16>,
     answers: Vec<u8>,
-    counts: Rises,
+    counts: CountNumbers,
 }
 
 impl Buffers {
@@ -37,7 +37,8 @@ impl Buffers {
         assert_eq!(Proved.open(&mut kept, asked(ride.limits)), 0);
         let (opened, link) = Link::open(ride.limits);
         assert_eq!(opened, Ok(()));
-        Buffers { kept, link, record: vec![0; ride.supply.len()], answers: vec![0; ride.events.len() / 2], counts: [0; 3] }
+        let (record, answers) = (vec![0; ride.supply.len()], vec![0; ride.events.len() / 2]);
+        Buffers { kept, link, record, answers, counts: ZERO_COUNTS }
     }
 
     fn proved(&mut self, ride: &Ride) -> u8 {
@@ -46,15 +47,23 @@ impl Buffers {
     }
 
     fn second(&mut self, ride: &Ride) -> bool {
-        second_run(&mut self.link, &ride.events, &ride.supply, &mut self.record, &mut self.answers)
+        let done = second_run(&mut self.link, &ride.events, &ride.supply, &mut self.record, &mut self.answers);
+        self.counts = count_numbers(done.unwrap_or_default());
+        done.is_ok()
     }
 }
 
-/// A name that callgrind finds.
+/// A name that callgrind finds. It gives the counts, so that counting them is not optimized away.
 #[inline(never)]
 #[no_mangle]
-pub fn second_run(link: &mut Link, events: &[u8], supply: &[u16], record: &mut [u16], answers: &mut [u8]) -> bool {
-    link.run(events, supply, record, answers).is_ok()
+pub fn second_run(
+    link: &mut Link,
+    events: &[u8],
+    supply: &[u16],
+    record: &mut [u16],
+    answers: &mut [u8],
+) -> Result<Counts, Refusal> {
+    link.run(events, supply, record, answers)
 }
 
 /// Events per second, the best of some runs, each on a fresh link and in buffers that an earlier run wrote.
@@ -77,6 +86,7 @@ fn refused(ride: &Ride) -> usize {
     proved.proved(ride);
     second.second(ride);
     assert!(proved.answers == second.answers && proved.record == second.record, "both runs are the same");
+    assert_eq!(proved.counts, second.counts, "both count the same");
     proved.answers.iter().filter(|answer| **answer != 0).count()
 }
 

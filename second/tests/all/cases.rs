@@ -1,7 +1,7 @@
 //! Bench cases A to J of the paper.
 
 use super::{counts, limits, list, ran, record, supply, Ran};
-use second::built::{Link, Reply};
+use second::built::{Counts, Link, Reply};
 use second::frames::{read, Frame};
 use second::limits::{number, Limits};
 
@@ -72,7 +72,7 @@ fn d_numbers_around_wanted() {
     let mut events = [(1, 0), (3, 0), (4, 0), (5, 0)].repeat(4);
     events.extend([(1, 0), (3, 0), (4, 0), (1, 0), (3, 0), (4, 0), (7, 0), (7, 0)]);
     let six = short(2, &events);
-    assert_eq!((six.counts, six.link.pad.wanted), (counts(6, 4, 6), 6 % 4));
+    assert_eq!((six.counts.rows(), six.link.pad.wanted), (counts(6, 4, 6), 6 % 4));
     events.extend([(8, 4), (2, 0), (2, 1)]);
     let again = short(2, &events);
     assert_eq!(again.link.data.all().iter().map(|m| m.number).collect::<Vec<_>>(), [0, 1]);
@@ -81,7 +81,7 @@ fn d_numbers_around_wanted() {
     assert_eq!(old.link.replies.all(), [Reply { first: 0, last: 0, life: 1 }, Reply { first: 1, last: 1, life: 1 }]);
     events.extend([(5, 0), (5, 0), (1, 0), (1, 0), (3, 1), (3, 0)]);
     let new = short(2, &events);
-    assert_eq!((new.counts, &new.link.pad.held[..2]), (counts(8, 6, 6), &[true, true][..]));
+    assert_eq!((new.counts.rows(), &new.link.pad.held[..2]), (counts(8, 6, 6), &[true, true][..]));
     assert_eq!(new.link.pad.rows[..2].as_flattened(), &supply(8)[6 * 16..], "rows 6 and 7");
     assert!(new.answers.iter().all(|answer| *answer == 0));
 }
@@ -91,7 +91,7 @@ fn e_a_reply_covers_the_live_row_alone() {
     let text = "1 0, 1 0, 3 0, 4 0, 3 0, 4 0, 5 0, 5 0, 1 0, 6 0, 1 0, 3 0, 8 4, 2 0, 3 0, 4 0";
     let e = short(2, &list(text));
     assert_eq!(e.answers, [0; 16]);
-    assert_eq!(e.counts, counts(4, 2, 3));
+    assert_eq!(e.counts.rows(), counts(4, 2, 3));
     assert_eq!(e.link.replies.all(), [Reply { first: 2, last: 2, life: 1 }]);
     assert!(e.link.pad.held[3 % 2], "row 3 is held");
     assert_eq!(e.link.pad.timers[3 % 2], 0);
@@ -125,7 +125,7 @@ fn i_a_later_row_is_marked_first() {
     events.push((5, 0));
     let both = short(2, &events);
     assert_eq!((both.answers[8], outstanding(&both.link)), (0, 0));
-    assert_eq!(both.counts, counts(2, 2, 2));
+    assert_eq!(both.counts.rows(), counts(2, 2, 2));
 }
 
 #[test]
@@ -171,6 +171,6 @@ fn refused_events() {
     let mut buffer = vec![7; 15];
     let counted = link.run(&events, &rows, &mut buffer, &mut answers);
     assert_eq!(answers, [8, 8, 8, 9, 9, 9, 14, 17, 17, 17, 17, 20, 0, 12, 0, 21, 99, 99]);
-    assert_eq!((counted, buffer), (Ok(counts(1, 0, 0)), vec![7; 15]));
+    assert_eq!((counted.map(Counts::rows), buffer), (Ok(counts(1, 0, 0)), vec![7; 15]));
     assert_eq!(number(&link.step(1, 0, &[], &mut [])), 11);
 }

@@ -4,11 +4,11 @@ use super::mistakes::{step, Mistake};
 use super::{limits, record, supply};
 use second::built::{Counts, Link};
 use second::checks::{openings, random_lists, wide_numbers};
-use second::compare::Case;
+use second::compare::{event_bytes, Case};
 use second::differ::{difference, ride_difference, Pair};
 use second::draw::random_case;
 use second::draw_link::drawn_link;
-use second::library::{rises, Asked, Lent, Library, Rises};
+use second::library::{count_numbers, Asked, CountNumbers, Lent, Library};
 use second::limits::{number, Limits, Refusal};
 use second::links::{damaged_links, made_up_links};
 use second::matlink::{Matlink, NUMBERS};
@@ -22,8 +22,9 @@ use second::threads::Amount;
 /// A library with this mistake, or with none.
 pub struct StandIn(pub Option<Mistake>);
 
-fn give(done: Result<Counts, Refusal>, counts: &mut Rises) -> u8 {
-    *counts = rises(done.unwrap_or_default());
+/// The number and the counts of a call, as a library gives them.
+fn give(done: Result<Counts, Refusal>, counts: &mut CountNumbers) -> u8 {
+    *counts = count_numbers(done.unwrap_or_default());
     number(&done)
 }
 
@@ -35,7 +36,7 @@ pub fn limits_of(asked: Asked) -> Limits {
 
 impl StandIn {
     /// The kept link changes where the call is done.
-    fn on(kept: &mut Matlink, call: impl FnOnce(&mut Link) -> Result<Counts, Refusal>) -> Result<Counts, Refusal> {
+    pub fn on(kept: &mut Matlink, call: impl FnOnce(&mut Link) -> Result<Counts, Refusal>) -> Result<Counts, Refusal> {
         let mut link = Link::from(&*kept);
         let done = call(&mut link);
         if done.is_ok() {
@@ -52,7 +53,14 @@ impl Library for StandIn {
         number(&answer)
     }
 
-    fn step(&self, kept: &mut Matlink, event: (u32, u32), supply: &[u16], record: &mut [u16], counts: &mut Rises) -> u8 {
+    fn step(
+        &self,
+        kept: &mut Matlink,
+        event: (u32, u32),
+        supply: &[u16],
+        record: &mut [u16],
+        counts: &mut CountNumbers,
+    ) -> u8 {
         // no kind is 0
         let kind = if event.0.max(event.1) > 255 { 0 } else { event.0 as u8 };
         let done = StandIn::on(kept, |link| match self.0 {
@@ -96,7 +104,7 @@ fn nothing_differs_from_the_right_link() {
     for seed in 0..300 {
         let case = random_case(seed);
         assert_eq!(difference(&right, &case), None);
-        let events: Vec<u8> = flat(&case.calls).into_iter().flat_map(|(kind, argument)| [kind, argument]).collect();
+        let events = event_bytes(&flat(&case.calls));
         assert_eq!(ride_difference(&right, &case, &events, events.len() / 2), None);
     }
     for short in all_short(2) {
@@ -125,6 +133,60 @@ fn each_mistake_is_found_by_made_up_links() {
         let wrong = StandIn(Some(mistake));
         let report = made_up_links(&wrong, &replay(), Amount { seed: 0, events: 100_000 }).expect_err("it is found");
         assert!(report.lines().count() < 40, "{mistake:?}: {report}");
+    }
+}
+
+/// Whether a run of these events is wrong.
+type WrongRun = fn(&[u8]) -> bool;
+
+/// A library in which wrong runs answer 99.
+struct WrongRuns(WrongRun);
+
+impl Library for WrongRuns {
+    fn open(&self, kept: &mut Matlink, asked: Asked) -> u8 {
+        StandIn(None).open(kept, asked)
+    }
+
+    fn step(
+        &self,
+        kept: &mut Matlink,
+        event: (u32, u32),
+        supply: &[u16],
+        record: &mut [u16],
+        counts: &mut CountNumbers,
+    ) -> u8 {
+        StandIn(None).step(kept, event, supply, record, counts)
+    }
+
+    fn run(&self, kept: &mut Matlink, lent: Lent) -> u8 {
+        let wrong = self.0(lent.events);
+        let answer = StandIn(None).run(kept, lent);
+        if wrong {
+            99
+        } else {
+            answer
+        }
+    }
+
+    fn ride(&self, asked: Asked, lent: Lent) -> u8 {
+        StandIn(None).ride(asked, lent)
+    }
+}
+
+/// Of two runs in a row one is left that is wrong, without events that it does not take.
+#[test]
+fn runs_on_made_up_links_are_cut() {
+    let wrong_runs: [(WrongRun, &str); 3] = [
+        (|events| events.len() % 2 == 0 && events.chunks(2).any(|event| event[0] == 8), "a run of tick "),
+        (|events| events.len() % 2 == 1, "a run of half an event"),
+        (|_| true, "a run of no event"),
+    ];
+    for (wrong, cut) in wrong_runs {
+        let found = made_up_links(&WrongRuns(wrong), &replay(), Amount { seed: 0, events: 100_000 });
+        let report = found.expect_err("it is found");
+        let calls = report.lines().find_map(|line| line.strip_prefix("# calls: ")).expect("the calls");
+        let calls = calls.split("; ").next().expect("words");
+        assert!(calls.starts_with(cut) && !calls.contains(','), "{report}");
     }
 }
 

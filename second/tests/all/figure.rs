@@ -84,7 +84,7 @@ fn the_corrected_protocol() {
         expected[27] = 20;
         expected[33] = 20;
         assert_eq!(all.answers, expected);
-        assert_eq!(all.counts, counts(5, 5, 5));
+        assert_eq!(all.counts.rows(), counts(5, 5, 5));
 
         let until = ran(limits, &events[..19]);
         assert_eq!(until.link.replies.all(), [Reply { first: 2, last: 2, life }], "not (2,3)");

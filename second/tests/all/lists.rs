@@ -1,6 +1,7 @@
 //! Lists on which the built ends are compared with the unbounded ends: random long ones, and all short ones.
 
 use super::{counts, limits};
+use second::audit::Audit;
 use second::built::{Counts, Link};
 use second::compare::{compare_with, ones, record_difference, rows, state_difference, Call, Case, Step};
 use second::draw::random_case;
@@ -97,12 +98,18 @@ fn mat_agrees(link: &Link, ends: &Ends) -> bool {
         .all(|m| link.mat.timers[m % w] == ends.mat[m].timer && (m < ends.oldest || link.mat.rows[m % w] == ends.mat[m].row))
 }
 
+/// The account of one event that was done; that of a list is the sum over its events.
+fn account_agrees(before: &Link, (kind, argument): Event, counts: Counts, after: &Link) -> bool {
+    before.sound() && Audit::of(before).events(&[kind, argument], &[0], counts, after).is_none()
+}
+
 /// Both ends after some list.
 #[derive(Clone, PartialEq, Eq, Hash)]
 struct State {
     link: Link,
     ends: Ends,
     record: Vec<u16>,
+    /// Without the accounts, which differ between lists that lead to the same state.
     total: Counts,
 }
 
@@ -120,13 +127,13 @@ fn all_lists(short: &Short, step: Step) -> Result<Compared, String> {
         let (sent, recorded) = (total.sent * CELLS, total.recorded * CELLS);
         let answer = step(link, kind, argument, &empty.supply[sent..], &mut record[recorded..]);
         let expected = ends.event(kind, argument, &supply, empty.record.len());
-        total.add(answer.unwrap_or_default());
+        total.add(answer.unwrap_or_default().rows());
         let agree = number(&answer) == number(&expected)
             && mat_agrees(link, ends)
             && state_difference(link, ends, *total).is_none()
             && record_difference(record, &empty.record, &supply, ends).is_none();
         match answer {
-            Ok(_) if agree => After::Done(after),
+            Ok(counts) if agree && account_agrees(&before.link, (kind, argument), counts, &after.link) => After::Done(after),
             Err(_) if agree && after == *before => After::Refused,
             _ => After::Differs,
         }

@@ -1,13 +1,13 @@
 //! Links that a caller made up: question 4 clause by clause, and what every event keeps.
 
-use super::{limits, supply};
-use second::built::{Counts, Link, Reply};
+use super::{counts, limits, supply};
+use second::built::{Link, Reply};
 use second::draw_link::sound_link;
 use second::limits::{number, Refusal, CELLS, TORN_CELL};
 use second::random::Random;
 
-/// After each event the link is sound; a refused one changes nothing; the counts are the rises; a run of one is the same.
-/// Questions 13, 18 and 19 arise here, and only here.
+/// After each event the link is sound; a refused one changes nothing; the counts of rows are the rises; a run of one is the
+/// same. Questions 13, 18 and 19 arise here, and only here.
 #[test]
 fn every_event_on_made_up_links() {
     let mut random = Random::new(7);
@@ -25,22 +25,20 @@ fn every_event_on_made_up_links() {
                 let answer = link.step(kind, argument, &rows, &mut record);
                 met[usize::from(number(&answer))] = true;
                 assert!(link.sound(), "round {round}: {kind} {argument}");
-                let rises = answer.unwrap_or_default();
+                let added = answer.unwrap_or_default();
                 if answer.is_err() {
                     assert!(link == given && record == blank, "round {round}: {kind} {argument}");
                 } else {
-                    let expected = Counts {
-                        sent: rise(given.mat.next, link.mat.next),
-                        acknowledged: rise(given.mat.oldest, link.mat.oldest),
-                        recorded: rise(given.pad.wanted, link.pad.wanted),
-                    };
-                    assert_eq!(rises, expected);
-                    assert_eq!(record[rises.recorded * 16..], blank[rises.recorded * 16..]);
+                    let sent = rise(given.mat.next, link.mat.next);
+                    let acknowledged = rise(given.mat.oldest, link.mat.oldest);
+                    let recorded = rise(given.pad.wanted, link.pad.wanted);
+                    assert_eq!(added.rows(), counts(sent, acknowledged, recorded));
+                    assert_eq!(record[added.recorded * 16..], blank[added.recorded * 16..]);
                 }
                 let (mut again, mut space, mut answers) = (given.clone(), blank.clone(), [77, 77]);
                 let ran = again.run(&[kind, argument], &rows, &mut space, &mut answers);
                 assert!(again == link && space == record);
-                assert_eq!((ran, answers), (Ok(rises), [number(&answer), 77]));
+                assert_eq!((ran, answers), (Ok(added), [number(&answer), 77]));
             }
         }
     }

@@ -1,5 +1,8 @@
 //! Tests. What they share stands here: supplies, lists on a fresh link, random numbers.
 
+mod account;
+mod account_checks;
+mod account_mistakes;
 mod cases;
 mod differ;
 mod figure;
@@ -22,7 +25,7 @@ mod wait_of_0;
 mod waits;
 
 use second::built::{Counts, Link};
-use second::compare::{compare, ones, Call, Case, UNWRITTEN};
+use second::compare::{compare, event_bytes, ones, Call, Case, UNWRITTEN};
 use second::limits::{Limits, CELLS};
 
 fn limits(window: usize, data_life: u16, reply_life: u16, reply_wait: u16, resend_wait: u16) -> Limits {
@@ -57,7 +60,7 @@ struct Ran {
 
 /// Runs a list with a supply and a record of 8 rows, after comparing the ends on it: in one run and event by event.
 fn ran(limits: Limits, events: &[(u8, u8)]) -> Ran {
-    let bytes: Vec<u8> = events.iter().flat_map(|&(kind, argument)| [kind, argument]).collect();
+    let bytes = event_bytes(events);
     let run = vec![Call::Run { events: bytes.clone(), answers: events.len() }];
     for calls in [run, ones(events)] {
         assert_eq!(compare(&Case { limits, supply: supply(8), record: record(8), calls }), None);
@@ -71,6 +74,7 @@ fn ran(limits: Limits, events: &[(u8, u8)]) -> Ran {
     Ran { answers, counts, link }
 }
 
+/// Counts of rows, with empty accounts.
 fn counts(sent: usize, acknowledged: usize, recorded: usize) -> Counts {
-    Counts { sent, acknowledged, recorded }
+    Counts { sent, acknowledged, recorded, ..Counts::default() }
 }

@@ -2,8 +2,8 @@
 //! lets pass, the same list records no row twice.
 
 use super::{counts, limits};
-use second::built::Link;
-use second::compare::{compare, ones, rows, Case, UNWRITTEN};
+use second::built::{Counts, Link};
+use second::compare::{compare, event_bytes, ones, rows, Case, UNWRITTEN};
 use second::limits::{number, Limits, Refusal, CELLS};
 use second::random::Random;
 use second::ride_text::text;
@@ -86,12 +86,12 @@ fn the_least_wait_is_enough() {
         assert_eq!((limits.resend_wait, limits.accept(), fresh.accept()), (fresh.sum() - 2, Ok(limits), Ok(limits)));
         let (w, list, supply) = (limits.window, events(&limits), different_rows(2 * limits.window));
         assert_eq!(list[5], (8, limits.reply_life as u8));
-        let bytes: Vec<u8> = list.iter().flat_map(|&(kind, argument)| [kind, argument]).collect();
+        let bytes = event_bytes(&list);
 
         let (_, mut link) = Link::open(limits);
         let (mut record, mut answers) = (vec![UNWRITTEN; supply.len() + CELLS], vec![99; list.len()]);
         let ran = link.run(&bytes, &supply, &mut record, &mut answers);
-        assert_eq!(ran, Ok(counts(w, 0, w)), "{limits:?}");
+        assert_eq!(ran.map(Counts::rows), Ok(counts(w, 0, w)), "{limits:?}");
         assert_eq!(answers, expected_with_least_wait(&list, w), "{limits:?}");
         assert_eq!(record[..w * CELLS], supply[..w * CELLS], "{limits:?}");
         assert!(record[w * CELLS..].iter().all(|cell| *cell == UNWRITTEN), "{limits:?}");

@@ -1,7 +1,7 @@
 //! A failing case is cut to a short one.
 
 use super::{limits, record, supply};
-use second::compare::{ones, Call, Case};
+use second::compare::{event_bytes, ones, Call, Case};
 use second::ride_text::text;
 use second::shrink::{flat, shortest};
 
@@ -20,7 +20,7 @@ fn a_case_is_cut() {
         record: record(2),
         calls: vec![
             Call::Run { events: vec![1, 0, 8], answers: 0 },
-            Call::Run { events: events.iter().flat_map(|&(kind, argument)| [kind, argument]).collect(), answers: 100 },
+            Call::Run { events: event_bytes(&events), answers: 100 },
         ],
     };
     let cut = shortest(case, &fails);

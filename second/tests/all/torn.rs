@@ -1,8 +1,8 @@
 //! Torn cells: the rule for a legal cell at its edges wherever it is asked, and a ride with torn cells over a loss.
 
 use super::{counts, limits, list, record, supply};
-use second::built::Link;
-use second::compare::{compare, ones, rows, Call, Case, UNWRITTEN};
+use second::built::{Counts, Link};
+use second::compare::{compare, event_bytes, ones, rows, Call, Case, UNWRITTEN};
 use second::frames::{read, write, Frame, DATA_LENGTH};
 use second::limits::{legal, legal_cell, number, Row, CELLS, TORN_CELL};
 use second::page::{page, LINE_LENGTH};
@@ -45,7 +45,8 @@ fn send() {
         let (mut link, mut again, mut ends) = (fresh.clone(), fresh.clone(), Ends::fresh(fresh.limits));
         let mut answers = [99];
         assert_eq!(number(&link.step(1, 0, &row, &mut [])), answer, "{row:?}");
-        assert_eq!(again.run(&[1, 0], &row, &mut [], &mut answers), Ok(counts(usize::from(answer == 0), 0, 0)));
+        let ran = again.run(&[1, 0], &row, &mut [], &mut answers);
+        assert_eq!(ran.map(Counts::rows), Ok(counts(usize::from(answer == 0), 0, 0)));
         assert_eq!((answers, number(&ends.event(1, 0, &[row], 0))), ([answer], answer), "{row:?}");
         let sent: &[Row] = if answer == 0 { &[row] } else { &[] };
         assert!(link.data.all().iter().map(|message| message.row).eq(sent.iter().copied()));
@@ -127,11 +128,12 @@ fn a_ride_over_a_loss() {
     let (limits, mut cells) = (limits(2, 1, 1, 1, 4), supply(3));
     TORN.iter().for_each(|at| cells[*at] = 65_535);
     let events = list("1 0, 6 0, 1 0, 3 0, 8 4, 2 0, 2 1, 3 0, 3 0, 4 0, 5 0, 1 0, 3 0, 4 0, 5 0");
-    let bytes: Vec<u8> = events.iter().flat_map(|&(kind, argument)| [kind, argument]).collect();
+    let bytes = event_bytes(&events);
 
     let (_, mut link) = Link::open(limits);
     let (mut buffer, mut answers) = (record(4), [99; 15]);
-    assert_eq!(link.run(&bytes, &cells, &mut buffer, &mut answers), Ok(counts(3, 3, 3)));
+    let ran = link.run(&bytes, &cells, &mut buffer, &mut answers);
+    assert_eq!(ran.map(Counts::rows), Ok(counts(3, 3, 3)));
     assert_eq!(answers, [0; 15]);
     assert_eq!(torn_places(&buffer), TORN);
     assert_eq!(buffer, [&cells[..], &[UNWRITTEN; CELLS]].concat());

@@ -4,7 +4,7 @@ use super::differ::{replay, StandIn};
 use second::built::Link;
 use second::checks::random_lists;
 use second::draw_link::drawn_link;
-use second::library::{Asked, Lent, Library, Rises};
+use second::library::{Asked, CountNumbers, Lent, Library, ZERO_COUNTS};
 use second::limits::{Row, CELLS, TORN_CELL};
 use second::links::made_up_links;
 use second::matlink::Matlink;
@@ -54,9 +54,16 @@ impl Library for Takes {
         StandIn(None).open(link, asked)
     }
 
-    fn step(&self, link: &mut Matlink, event: (u32, u32), supply: &[u16], record: &mut [u16], counts: &mut Rises) -> u8 {
+    fn step(
+        &self,
+        link: &mut Matlink,
+        event: (u32, u32),
+        supply: &[u16],
+        record: &mut [u16],
+        counts: &mut CountNumbers,
+    ) -> u8 {
         if !self.sound(link) {
-            *counts = [0; 3];
+            *counts = ZERO_COUNTS;
             return 4;
         }
         // a link that is sound by this rule alone is at least not refused by 4

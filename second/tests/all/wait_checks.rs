@@ -2,7 +2,7 @@
 
 use super::differ::{replay, StandIn};
 use super::limits;
-use second::library::{Asked, Lent, Library, Rises};
+use second::library::{Asked, CountNumbers, Lent, Library};
 use second::matlink::Matlink;
 use second::threads::Amount;
 use second::wait_checks::{edges, waits, Edge, Shows, Waits};
@@ -29,7 +29,14 @@ impl Library for Rides {
         StandIn(None).open(link, asked)
     }
 
-    fn step(&self, link: &mut Matlink, event: (u32, u32), supply: &[u16], record: &mut [u16], counts: &mut Rises) -> u8 {
+    fn step(
+        &self,
+        link: &mut Matlink,
+        event: (u32, u32),
+        supply: &[u16],
+        record: &mut [u16],
+        counts: &mut CountNumbers,
+    ) -> u8 {
         StandIn(None).step(link, event, supply, record, counts)
     }
 

@@ -2,11 +2,11 @@
 
 use super::differ::{limits_of, replay, StandIn};
 use super::{limits, list, ran};
-use second::built::Link;
+use second::built::{Account, Counts, Link};
 use second::checks::{openings, random_lists};
 use second::compare::rows;
 use second::draw::random_case;
-use second::library::{rises, Asked, Lent, Library, Rises};
+use second::library::{count_numbers, Asked, CountNumbers, Lent, Library};
 use second::limits::{number, Limits};
 use second::matlink::Matlink;
 use second::met::Lists;
@@ -81,7 +81,14 @@ impl Library for Zero {
         answer
     }
 
-    fn step(&self, link: &mut Matlink, event: (u32, u32), supply: &[u16], record: &mut [u16], counts: &mut Rises) -> u8 {
+    fn step(
+        &self,
+        link: &mut Matlink,
+        event: (u32, u32),
+        supply: &[u16],
+        record: &mut [u16],
+        counts: &mut CountNumbers,
+    ) -> u8 {
         StandIn(None).step(link, event, supply, record, counts)
     }
 
@@ -100,11 +107,14 @@ impl Library for Zero {
         let number_of_ride = StandIn(None).ride(asked, right);
         if number_of_ride == 0 {
             let mut ends = Unasked { record: record.to_vec(), ..Unasked::fresh(self.limits(asked)) };
+            let mut total = Counts::default();
             for (event, answer) in events.chunks_exact(2).zip(answers) {
-                *answer = number(&ends.put((event[0], event[1]), supply));
+                let done = ends.put((event[0], event[1]), supply);
+                *answer = number(&done);
+                total.add(done.unwrap_or_default());
             }
             record.copy_from_slice(&ends.record);
-            *counts = rises(ends.total);
+            *counts = count_numbers(total);
         }
         number_of_ride
     }
@@ -163,6 +173,12 @@ fn the_right_meaning_differs_nowhere() {
     }
 }
 
+/// Counts of a list on which all that is counted happened once.
+const ONE_OF_EACH: Counts = {
+    let one = Account { put: 1, arrived: 1, lost: 1, dropped: 1 };
+    Counts { sent: 1, acknowledged: 1, recorded: 1, data: one, replies: one }
+};
+
 /// Drawn lists, many and few, with each wait written out.
 #[test]
 fn lists_without_a_wait_of_0_are_found_out() {
@@ -170,7 +186,7 @@ fn lists_without_a_wait_of_0_are_found_out() {
         let mut met = Lists::default();
         for mut case in (0..lists).map(random_case) {
             case.limits = limits(case.limits);
-            met.add(&case, rows(&case.supply).len());
+            met.add(&case, Counts { sent: rows(&case.supply).len(), ..ONE_OF_EACH });
         }
         met.all_there()
     };

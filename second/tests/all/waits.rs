@@ -8,7 +8,7 @@ use second::checks::openings;
 use second::compare::rows;
 use second::draw::{random_case_of, random_limits};
 use second::draw_link::drawn_link;
-use second::library::{Asked, Lent, Library, Rises};
+use second::library::{Asked, CountNumbers, Lent, Library, ZERO_COUNTS};
 use second::limits::{number, Limits, Refusal};
 use second::links::made_up_links;
 use second::matlink::Matlink;
@@ -166,9 +166,16 @@ impl Library for LeastWait {
         0
     }
 
-    fn step(&self, link: &mut Matlink, event: (u32, u32), supply: &[u16], record: &mut [u16], counts: &mut Rises) -> u8 {
+    fn step(
+        &self,
+        link: &mut Matlink,
+        event: (u32, u32),
+        supply: &[u16],
+        record: &mut [u16],
+        counts: &mut CountNumbers,
+    ) -> u8 {
         if !self.sound(link) {
-            *counts = [0; 3];
+            *counts = ZERO_COUNTS;
             return 4;
         }
         // a link that is sound by this rule alone is at least not refused by 4

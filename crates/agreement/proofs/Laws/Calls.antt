@@ -18,11 +18,17 @@ use Rattle.mat.specs.View.{mat_state}
 use Rattle.pad.specs.Window.{PadState}
 use Rattle.pad.specs.View.{pad_state}
 use Rattle.events.specs.State.{LinkState, Moved}
+use Rattle.events.specs.Counts.{Account, more_messages}
+use Rattle.events.specs.Account.{data_account, reply_account}
+use Rattle.events.proofs.Laws.Sums.{same-account, account-assoc}
+use Rattle.lists.specs.Account.{account}
+use Rattle.lists.specs.Runs as runs
 use Rattle.events.specs.View.{link_state, sound_link}
 use Rattle.agreement.specs.Reading.{reading}
 use Rattle.agreement.specs.Calls.{Made, Line, following, Chain, end_of, events_of, all_events, all_numbers}
 use Rattle.agreement.specs.Agreed.{Same}
 use Rattle.agreement.proofs.Laws.Codes.{not4}
+use Rattle.agreement.proofs.Laws.Shift.{account-append}
 use Rattle.agreement.proofs.Laws.Chains.{shown_line, Follows, follows}
 use Rattle.agreement.proofs.Laws.Track.{Track, sent-fits, recorded-fits, track-all, same-answers}
 
@@ -43,9 +49,20 @@ pub record Came (l : Limits) (supply first : List ℕ) (x : Line) (s : Ends) (cs
   pub numbers : all_numbers supply cs ≡ answers l supply (length first) s (all_events supply cs)
   pub track : Track l supply first (shown_line (end_of x cs)) (after_all l supply (length first) s (all_events supply cs))
   pub never-4 : all (λ (c : Made). not4 (number_of c.result)) cs ≡ true
+  pub datas : (end_of x cs).counts.datas ≡ more_messages x.counts.datas (account data_account supply (shown_line x) (all_events supply cs))
+  pub replies : (end_of x cs).counts.replies ≡ more_messages x.counts.replies (account reply_account supply (shown_line x) (all_events supply cs))
 
 track-by : (l : Limits) (supply first : List ℕ) (y z : Moved) (s u : Ends) → y ≡ z → s ≡ u → Track l supply first z u → Track l supply first y s
 track-by l supply first y z s u e h t = rw (e, h) t
+
+-- the account of a call, and of the calls behind it
+counts-on : (of_event : LinkState → Event → Account) (supply : List ℕ) (y z : Moved) (es fs : List Event) (a b c : Account)
+    → b ≡ account of_event supply y es → z ≡ runs.after_all supply y es → c ≡ more_messages (more_messages a b) (account of_event supply z fs)
+    → c ≡ more_messages a (account of_event supply y (es ++ fs))
+counts-on of_event supply y z es fs a b c p q h =
+    h
+    ∙ account-assoc a b (account of_event supply z fs)
+    ∙ ap (more_messages a) (ap₂ (λ u v. more_messages u (account of_event supply v fs)) p q ∙ sym (account-append of_event supply y es fs))
 
 module _ (l : Limits) (g : Good l) (supply first : List ℕ) where
   came-on : (x : Line) (s : Ends) (c : Made) (cs : List Made) → Track l supply first (shown_line x) s → Follows supply x c c.call
@@ -60,12 +77,15 @@ module _ (l : Limits) (g : Good l) (supply first : List ℕ) where
         track =
             track-by l supply first _ _ _ _ refl (after-append l supply (length first) s (events_of supply c.call) (all_events supply cs)) rest.track;
         never-4 = both _ _ f.not-4 rest.never-4;
+        datas = counts-on data_account supply _ _ (events_of supply c.call) (all_events supply cs) _ _ _ f.datas f.moved rest.datas;
+        replies = counts-on reply_account supply _ _ (events_of supply c.call) (all_events supply cs) _ _ _ f.replies f.moved rest.replies;
       }
 
   pub came : (x : Line) (s : Ends) (cs : List Made) → sound_link x.link ≡ true → Track l supply first (shown_line x) s → Chain supply x cs
       → Came l supply first x s cs
-  unfolding joined all answers after_all
-  came x s [] k t m = record { numbers = refl; track = t; never-4 = refl }
+  unfolding joined all answers after_all account
+  came x s [] k t m =
+      record { numbers = refl; track = t; never-4 = refl; datas = same-account x.counts.datas; replies = same-account x.counts.replies }
   came x s (c ∷ cs) k t m =
       let f = follows supply x c k (sent-fits l supply first (shown_line x) s t) (recorded-fits l supply first (shown_line x) s t) c.call m.0 in
       came-on x s c cs t f

@@ -6,8 +6,12 @@ use native.Mathlib.Omega.{arith}
 use lib.ListN.{length, take, drop, take-append-drop}
 use lib.Seq.{length-take-le, take-append-add, drop-append-add, drop-drop}
 use Rattle.limits.specs.Events.{Event}
-use Rattle.events.specs.State.{Moved, unmoved}
+use Rattle.events.specs.State.{LinkState, Moved, unmoved}
+use Rattle.events.specs.Counts.{Account, more_messages}
 use Rattle.events.specs.Rules.{answer, stepped}
+use Rattle.events.specs.Account.{if_done}
+use Rattle.events.proofs.Laws.Sums.{from-none, account-assoc}
+use Rattle.lists.specs.Account.{account}
 use Rattle.lists.specs.Runs.{supply_left, buffer_left, continued, next, after_all, answers}
 
 pub moved_same : (x y : Moved) → x.state ≡ y.state → x.counts.sent ≡ y.counts.sent → x.counts.acknowledged ≡ y.counts.acknowledged
@@ -83,6 +87,30 @@ module _ (x : Moved) (within : 16 * x.counts.recorded ≤ length x.buffer) where
   pub shift-numbers : (supply : List ℕ) (es : List Event)
       → answers (supply_left supply x) (unmoved x.state (buffer_left x)) es ≡ answers supply x es
   shift-numbers supply es = sym (shift-answers supply (unmoved x.state (buffer_left x)) es) ∙ ap (λ z. answers supply z es) (continued-unmoved x)
+
+module _ (of_event : LinkState → Event → Account) where
+  module _ (x : Moved) (within : 16 * x.counts.recorded ≤ length x.buffer) where
+    shift-on : (supply : List ℕ) (y : Moved) (es : List Event)
+        → account of_event supply (continued x y) es ≡ account of_event (supply_left supply x) y es
+    unfolding account continued
+    shift-on supply y [] = refl
+    shift-on supply y (e ∷ es) =
+        ap₂ more_messages (ap₂ (λ s b. if_done s b y.state e (of_event y.state e)) (supply-left x within supply y) (buffer-left x within y))
+        (ap (λ z. account of_event supply z es) (shift-next x within supply y e) ∙ shift-on supply (next (supply_left supply x) y e) es)
+
+    pub shift-account : (supply : List ℕ) (es : List Event)
+        → account of_event (supply_left supply x) (unmoved x.state (buffer_left x)) es ≡ account of_event supply x es
+    shift-account supply es = sym (shift-on supply (unmoved x.state (buffer_left x)) es) ∙ ap (λ z. account of_event supply z es) (continued-unmoved x)
+
+  -- the account of two lists, one after the other
+  pub account-append : (supply : List ℕ) (x : Moved) (es fs : List Event)
+      → account of_event supply x (es ++ fs) ≡ more_messages (account of_event supply x es) (account of_event supply (after_all supply x es) fs)
+  unfolding account after_all
+  account-append supply x [] fs = from-none (account of_event supply x fs)
+  account-append supply x (e ∷ es) fs =
+      let a = if_done (supply_left supply x) (buffer_left x) x.state e (of_event x.state e) in
+      ap (more_messages a) (account-append supply (next supply x e) es fs)
+      ∙ sym (account-assoc a (account of_event supply (next supply x e) es) (account of_event supply (after_all supply (next supply x e) es) fs))
 
 pub length-answers : (supply : List ℕ) (x : Moved) (es : List Event) → length (answers supply x es) ≡ length es
 unfolding answers

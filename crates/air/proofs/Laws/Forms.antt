@@ -9,11 +9,12 @@ use lib.ListN.{length, get_or, take, drop, length-map}
 use Rattle.limits.specs.declared.Limits.{Limits}
 use Rattle.limits.specs.Limits.{sound_limits}
 use Rattle.limits.specs.Lists.{tab, all}
-use Rattle.limits.specs.Tables.{Message, on_body, put, remove, age}
+use Rattle.limits.specs.Tables.{Message, on_body, put, remove, age, expired}
 use Rattle.limits.proofs.Laws.Choice.{both}
 use Rattle.limits.proofs.Laws.Good.{in_between}
 use Rattle.limits.proofs.Laws.Lists.{all_map, all-next, all_both, flag-end, length-tab, get_or-tab}
 use Rattle.limits.proofs.Laws.Mapped.{table_at, table-put, table-remove, table-age}
+use Rattle.limits.proofs.Laws.Sizes.{size-age, expired-read}
 use Rattle.tables.specs.Words.{message_of, message_at, messages}
 use Rattle.tables.proofs.Laws.Words.{starts_by, ends_by}
 use Rattle.air.specs.Rules.{sound_message, sound_messages}
@@ -87,6 +88,20 @@ module _ {B : Type 0} (form : Form B) (l : Limits) (n : ℕ) (words next : List 
       let same : map (on_body form.reads) (messages form.width left next) ≡ age d (map (on_body form.reads) (messages form.width n words))
       = ap (map (on_body form.reads)) (rw is at e) ∙ sym (table-age form.reads d (messages form.width n words)) in
       (rw same (age-sound (form.sound l) (form.longest l) d (map (on_body form.reads) (messages form.width n words)) s), same)
+
+-- the messages that are left, and those whose life is over
+pub age-counts : {B : Type 0} (form : Form B) (n : ℕ) (words next : List ℕ) (w d left : ℕ) → w ≡ form.width
+    → messages w left next ≡ age d (messages w n words) → left + expired d (messages_of form n words) ≡ n
+unfolding messages_of messages
+age-counts form n words next w d left is e =
+    let here = tab n (message_at form.width words) in
+    let kept : tab left (message_at form.width next) ≡ age d here = rw is at e in
+    let size = ap length kept in
+    let all_of_them = size-age d here in
+    let read = expired-read form.reads d here in
+    let a = length-tab left (message_at form.width next) in
+    let b = length-tab n (message_at form.width words) in
+    omega arith
 
 module _ {B : Type 0} (form : Form B) {fits : B → Type 0} (laws : FormLaws form fits) (l : Limits) where
   -- a message put with its full life is sound

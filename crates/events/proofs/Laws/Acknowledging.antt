@@ -20,9 +20,9 @@ use Rattle.air.specs.Data.{data_messages}
 use Rattle.air.specs.Replies.{ReplyTable, reply_messages, ReplyHolds, ReplyFound}
 use Rattle.events.specs.declared.Link.{Link}
 use Rattle.events.specs.Rules.{acted}
-use Rattle.events.specs.View.{link_state, Moves}
+use Rattle.events.specs.View.{link_state}
 use Rattle.events.proofs.Laws.Parts.{Parts, whole}
-use Rattle.events.proofs.Laws.Ends.{done}
+use Rattle.events.proofs.Laws.Ends.{Moves, done}
 
 module _ (k : Link) (p : Parts k) (n : ℕ) (body : Reply) (c : ReplyFound k.replies n (Ok body)) where
   passes : first_no (place_questions n (reply_messages k.replies)) ≡ 0

@@ -7,7 +7,7 @@ use lib.Dec.{ltb}
 use lib.ListN.{length, get_or}
 use Rattle.limits.specs.Lists.{all}
 use Rattle.std.specs.Prelude.{Ok}
-use Rattle.limits.specs.Questions.{Question, Answer, ask, first_no}
+use Rattle.limits.specs.Questions.{Question, ask, first_no}
 use Rattle.limits.specs.Tables.{Data, capacity, remove, no_data}
 use Rattle.limits.specs.Events.{arrive_data}
 use Rattle.limits.proofs.Laws.Choice.{pick_yes, pick_no}
@@ -16,15 +16,15 @@ use Rattle.pad.specs.Rules.{Arrival, arrival}
 use Rattle.pad.specs.declared.Pad.{Pad}
 use Rattle.mat.specs.View.{mat_state}
 use Rattle.pad.specs.View.{pad_state, sound_pad}
-use Rattle.air.specs.Rules.{place_questions}
+use Rattle.air.specs.Rules.{place_questions, room_questions}
 use Rattle.air.specs.Data.{DataTable, data_messages, DataHolds, DataFound}
 use Rattle.air.specs.Replies.{reply_messages}
 use Rattle.events.specs.declared.Link.{Link}
-use Rattle.events.specs.Rules.{old_taken, new_taken, taken}
-use Rattle.events.specs.View.{link_state, Moves}
+use Rattle.events.specs.Rules.{old_taken, new_taken}
+use Rattle.events.specs.View.{link_state}
 use Rattle.events.specs.Lent.{OldTaken}
 use Rattle.events.proofs.Laws.Parts.{Parts, whole}
-use Rattle.events.proofs.Laws.Ends.{done, call-as}
+use Rattle.events.proofs.Laws.Ends.{Moves, done}
 
 -- question 18 is put of an old row alone
 old-asked : (o b : Bool) → o ≡ true → (not o || b) ≡ b
@@ -67,22 +67,27 @@ module _ (k : Link) (p : Parts k) (n : ℕ) (body : Data) (c : DataFound k.datas
       reply-is : a.reply ≡ made.reply
       reply-is = ap (λ (x : Arrival). x.reply) arrived-is
 
-      pub old-arrives : (k' : Link) (r : Answer) (supply b : List ℕ) → OldTaken k b n a.reply k' r → Moves k supply b b (arrive_data n) (tt {0}) k' r
+      pub old-asks : first_no (room_questions 18 (reply_messages k.replies)) ≡ first_no asked
+      old-asks = ap (λ x. first_no (ask 18 x ∷ [])) (sym (old-asked made.old (ltb (length (reply_messages k.replies)) capacity) (old-as ∙ o))) ∙ sym asked-behind
+
+      pub old-arrives : (k' : Link) (supply b : List ℕ) → OldTaken k b n a.reply k' (Ok tt) → Moves k supply b b (arrive_data n) made.old k' (Ok true)
       unfolding link_state
-      old-arrives k' r supply b t =
-          call-as _ asked _ (taken (link_state k) n made, b) k k' b b r
-          (ap (λ x. first_no (ask 18 x ∷ [])) (sym (old-asked made.old (ltb (length (reply_messages k.replies)) capacity) (old-as ∙ o))) ∙ sym asked-behind)
-          (ap (λ x. (x, b)) (ap (old_taken (link_state k) n) reply-is ∙ sym (pick_yes made.old _ _ _ (old-as ∙ o) refl)))
-          t
+      old-arrives k' supply b t =
+          record {
+            answered = record { number = t.answered.number ∙ old-asks; value = sym (old-as ∙ o) };
+            left = t.left ∙ ap (λ x. (x, b)) (ap (old_taken (link_state k) n) reply-is ∙ sym (pick_yes made.old _ _ _ (old-as ∙ o) refl));
+            kept = tt;
+            stays = t.stays;
+          }
 
     -- a row of the window, whose message left the table
     pub new-arrives : (pad : Pad) → sound_pad k.limits pad ≡ true → a.state ≡ pad_state k.limits.window pad → (left : DataTable)
         → DataHolds k.limits left (remove n (data_messages k.datas)) → a.old ≡ false → (supply b : List ℕ)
-        → Moves k supply b b (arrive_data n) (tt {0}) (record { limits = k.limits; mat = k.mat; pad = pad; datas = left; replies = k.replies }) (Ok tt)
+        → Moves k supply b b (arrive_data n) made.old (record { limits = k.limits; mat = k.mat; pad = pad; datas = left; replies = k.replies }) (Ok false)
     unfolding link_state
     new-arrives pad q is' left h o supply b =
-        done asked _ k _ b b tt
-        (asked-behind ∙ pick_yes _ _ _ _ (new-passes made.old (ltb (length (reply_messages k.replies)) capacity) (old-as ∙ o)) refl) refl
+        done asked _ k _ b b false
+        (asked-behind ∙ pick_yes _ _ _ _ (new-passes made.old (ltb (length (reply_messages k.replies)) capacity) (old-as ∙ o)) refl) (sym (old-as ∙ o))
         (ap₂ (λ ms s. record { limits = k.limits; mat = mat_state k.limits.window k.mat; pad = s; datas = ms; replies = reply_messages k.replies }) h.1 (sym is')
         ∙ ap (λ (x : Arrival). new_taken (link_state k) n x.state) arrived-is
         ∙ sym (pick_no made.old _ _ _ (old-as ∙ o) refl))

@@ -20,7 +20,7 @@ use Rattle.air.specs.Rules.{place_questions, sound_message, sound_messages}
 use Rattle.air.specs.Forms.{Form, sound_table}
 use Rattle.air.specs.Tables.{table_messages, sound_in}
 
-found : {A : Type 0} (p : ℕ) (ms : List A) → first_no (place_questions p ms) ≡ 0 → p < length ms
+pub found : {A : Type 0} (p : ℕ) (ms : List A) → first_no (place_questions p ms) ≡ 0 → p < length ms
 unfolding all
 found p ms e = ltb-true p (length ms) (each (place_questions p ms) refl e).0
 

@@ -29,9 +29,9 @@ use Rattle.air.specs.Data.{data_messages}
 use Rattle.air.specs.Replies as air
 use Rattle.events.specs.declared.Link.{Link}
 use Rattle.events.specs.Rules.{acted}
-use Rattle.events.specs.View.{link_state, Moves}
+use Rattle.events.specs.View.{link_state}
 use Rattle.events.proofs.Laws.Parts.{Parts, whole}
-use Rattle.events.proofs.Laws.Ends.{done}
+use Rattle.events.proofs.Laws.Ends.{Moves, done}
 
 -- 20, 21 and 18 of a pad, a record's space and a table
 module _ {A : Type 0} (s : PadState) (space : ℕ) (ms : List A) where

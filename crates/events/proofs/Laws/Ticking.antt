@@ -15,9 +15,9 @@ use Rattle.pad.specs.declared.Pad.{Pad}
 use Rattle.air.specs.Data.{DataTable, data_messages, DataHolds}
 use Rattle.air.specs.Replies.{ReplyTable, reply_messages, ReplyHolds}
 use Rattle.events.specs.declared.Link.{Link}
-use Rattle.events.specs.View.{link_state, Moves}
+use Rattle.events.specs.View.{link_state}
 use Rattle.events.proofs.Laws.Parts.{Parts, whole}
-use Rattle.events.proofs.Laws.Ends.{done}
+use Rattle.events.proofs.Laws.Ends.{Moves, done}
 
 module _ (k : Link) (p : Parts k) (d : ℕ) (m : Mat) (q : Pad) (ds : DataTable) (rs : ReplyTable) where
   pub ticks : (mat.sound_mat k.limits m ≡ true) × (mat.mat_state k.limits.window m ≡ mat_rules.ticked d (mat.mat_state k.limits.window k.mat))

@@ -18,8 +18,7 @@ use Rattle.mat.specs.Window.{MatState}
 use Rattle.mat.specs.Rules as mat
 use Rattle.pad.specs.Window.{PadState}
 use Rattle.pad.specs.Rules as pad
-use Rattle.events.specs.declared.Counts.{Counts}
-use Rattle.events.specs.State.{LinkState, Moved}
+use Rattle.events.specs.State.{LinkState, Rows, Moved}
 use Rattle.events.specs.Rules.{answer, acted}
 use Rattle.leastwait.proofs.Laws.Goes.{reached, Does, leaves, does}
 use Rattle.leastwait.proofs.Laws.Forms.{idle, out, free, held, data_message, reply_message, link_of, last_timer, timer-at, one-ready, arrived, replied, acknowledged}
@@ -27,7 +26,7 @@ use Rattle.leastwait.proofs.Laws.Supply.{number, in-part, number-next, number-sa
 
 module _ (l : Limits) (some : 1 ≤ l.window) (supply written rest : List ℕ) (sent acked recorded : ℕ) (fits : length written ≡ 16 * recorded) where
   -- an event that does not touch the record
-  aside : (s s' : LinkState) (e : Event) (k : Counts) (sent' acked' : ℕ) → answer (drop (16 * sent) supply) rest s e ≡ 0
+  aside : (s s' : LinkState) (e : Event) (k : Rows) (sent' acked' : ℕ) → answer (drop (16 * sent) supply) rest s e ≡ 0
       → acted (drop (16 * sent) supply) rest s e ≡ record { state = s'; counts = k; buffer = rest }
       → sent + k.sent ≡ sent' → acked + k.acknowledged ≡ acked' → recorded + k.recorded ≡ recorded
       → Does supply (reached s sent acked recorded written rest) e 0 (reached s' sent' acked' recorded written rest)

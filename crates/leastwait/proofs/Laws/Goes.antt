@@ -1,6 +1,6 @@
 -- Events one after the other: what they answer and what they leave.
 use Prim.Native.Nat.{ℕ, ◌*◌}
-use mathlib.Core.Path.{◌≡◌, refl, ◌∙◌, ap, ap₂}
+use mathlib.Core.Path.{◌≡◌, refl, sym, ◌∙◌, ap, ap₂}
 use mathlib.Core.Bool.{false}
 use mathlib.Core.List.{List, [], ◌∷◌, ◌++◌}
 use lib.Dec.{eqb}
@@ -8,9 +8,9 @@ use lib.ListN.{length, drop}
 use lib.Seq.{take_at, drop_at}
 use Rattle.limits.specs.Events.{Event}
 use Rattle.limits.proofs.Laws.Choice.{pick_yes, pick_no}
-use Rattle.events.specs.State.{LinkState, Moved, added, unmoved}
+use Rattle.events.specs.State.{LinkState, Moved, more_rows, unmoved}
 use Rattle.events.specs.Rules.{answer, acted, stepped}
-use Rattle.events.proofs.Laws.Counting.{added-none}
+use Rattle.events.proofs.Laws.Sums.{same-rows}
 use Rattle.lists.specs.Runs.{supply_left, buffer_left, continued, next, after_all, answers}
 
 -- the record is what is written and the rest behind it
@@ -39,18 +39,18 @@ module _ (supply : List ℕ) (s : LinkState) (sent acknowledged recorded : ℕ) 
 
   -- by what it does with the rests of supply and record
   by_rests : (n : ℕ) (m : Moved) → answer (drop (16 * sent) supply) rest s e ≡ n → stepped (drop (16 * sent) supply) rest s e ≡ m
-      → Does supply here e n (record { state = m.state; counts = added here.counts m.counts; buffer = written ++ m.buffer })
+      → Does supply here e n (record { state = m.state; counts = more_rows here.counts m.counts; buffer = written ++ m.buffer })
   unfolding next continued
   by_rests n m a h =
       record {
         answered = ap (λ r. answer (drop (16 * sent) supply) r s e) left_is ∙ a;
         left =
             ap (continued here) (ap (λ r. stepped (drop (16 * sent) supply) r s e) left_is ∙ h)
-            ∙ ap (λ w. record { state = m.state; counts = added here.counts m.counts; buffer = w ++ m.buffer }) (take_at written rest (16 * recorded) fits);
+            ∙ ap (λ w. record { state = m.state; counts = more_rows here.counts m.counts; buffer = w ++ m.buffer }) (take_at written rest (16 * recorded) fits);
       }
 
   pub does : (m : Moved) → answer (drop (16 * sent) supply) rest s e ≡ 0 → acted (drop (16 * sent) supply) rest s e ≡ m
-      → Does supply here e 0 (record { state = m.state; counts = added here.counts m.counts; buffer = written ++ m.buffer })
+      → Does supply here e 0 (record { state = m.state; counts = more_rows here.counts m.counts; buffer = written ++ m.buffer })
   unfolding stepped
   does m a h =
       by_rests 0 m a
@@ -63,7 +63,7 @@ module _ (supply : List ℕ) (s : LinkState) (sent acknowledged recorded : ℕ) 
       leaves
       (by_rests n (unmoved s rest) a
       (pick_no (eqb (answer (drop (16 * sent) supply) rest s e) 0) (acted (drop (16 * sent) supply) rest s e) (unmoved s rest) (unmoved s rest) (ap (λ k. eqb k 0) a ∙ z) refl))
-      (ap (λ k. record { state = s; counts = k; buffer = written ++ rest }) (added-none here.counts))
+      (ap (λ k. record { state = s; counts = k; buffer = written ++ rest }) (sym (same-rows here.counts)))
 
 module _ (supply : List ℕ) where
   pub record Goes (x : Moved) (es : List Event) (ns : List ℕ) (y : Moved) : Type 0 where

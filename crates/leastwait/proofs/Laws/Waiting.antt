@@ -1,6 +1,6 @@
 -- The ticks of the list: the wait's three parts pass, and a part of 0 is refused and changes nothing.
 use Prim.Native.Nat.{ℕ, ◌-◌, ◌*◌, ◌≤◌, ◌<◌}
-use mathlib.Core.Path.{◌≡◌, refl, ap, ap₂}
+use mathlib.Core.Path.{◌≡◌, refl, sym, ap, ap₂}
 use mathlib.Core.List.{List, [], ◌∷◌, ◌++◌}
 use native.Mathlib.Omega.{arith}
 use lib.Dec.{leb}
@@ -17,7 +17,7 @@ use Rattle.mat.specs.Rules as mat
 use Rattle.events.specs.Rules.{acted}
 use Rattle.events.specs.State.{LinkState}
 use Rattle.leastwait.specs.NoShorterWait.{answer_to_tick}
-use Rattle.events.proofs.Laws.Counting.{added-none}
+use Rattle.events.proofs.Laws.Sums.{same-rows}
 use Rattle.leastwait.proofs.Laws.Goes.{reached, Does, leaves, does, refuses}
 use Rattle.leastwait.proofs.Laws.Supply.{number}
 use Rattle.leastwait.proofs.Laws.Forms.{out, free, held, data_message, reply_message, link_of, last_timer, timers-fall, life-falls, free-ticked, held-ticked}
@@ -42,7 +42,7 @@ unfolding pick
 passes supply written rest sent acked recorded fits state d t f falls =
     on-tick (λ e n. Does supply (reached (state t f) sent acked recorded written rest) e n (reached (state (t - d) (f - d)) sent acked recorded written rest)) d
     (λ h. leaves (does supply (state t f) sent acked recorded written rest fits (tick d) _ refl refl)
-    (ap₂ (λ u k. record { state = u; counts = k; buffer = written ++ rest }) falls (added-none (record { sent = sent; acknowledged = acked; recorded = recorded }))))
+    (ap₂ (λ u k. record { state = u; counts = k; buffer = written ++ rest }) falls (sym (same-rows (record { sent = sent; acknowledged = acked; recorded = recorded })))))
     (λ z. leaves (refuses supply (state t f) sent acked recorded written rest fits misfit 9 refl refl)
     (ap₂ (λ u v. reached (state u v) sent acked recorded written rest) (unless-passed t d z) (unless-passed f d z)))
 

@@ -14,6 +14,7 @@ use Rattle.limits.specs.Questions.{Answer}
 use Rattle.limits.specs.Lists.{all}
 use Rattle.limits.proofs.Laws.Choice.{test, clash, and_left, and_right}
 use Rattle.limits.proofs.Laws.Lists.{all_append}
+use Rattle.limits.proofs.Laws.Events.{event-count}
 use Rattle.limits.specs.Events.{Event, event, events}
 use Rattle.mat.specs.Window.{outstanding}
 use Rattle.std.specs.Prelude.{Ok, Err}
@@ -21,16 +22,24 @@ use Rattle.events.specs.declared.Link.{Link}
 use Rattle.events.specs.declared.LentLink.{LentLink}
 use Rattle.events.specs.Lent.{StaysLent}
 use Rattle.events.specs.declared.Counts.{Counts}
-use Rattle.events.specs.State.{Moved, added, unmoved}
+use Rattle.events.specs.State.{LinkState, Moved, unmoved}
+use Rattle.events.specs.Counts.{more_messages, counts_of, rows_of}
 use Rattle.events.specs.Rules.{stepped}
+use Rattle.events.specs.Account.{data_account, reply_account}
 use Rattle.lists.specs.Runs.{continued, next, after_all, answers}
 use Rattle.events.specs.View.{link_state, sound_link, Counted, HasRoom}
 use Rattle.lists.specs.View.{refuses, running}
-use Rattle.events.proofs.Laws.Counting.{counted-shows}
+use Rattle.events.proofs.Laws.Parts.{parts}
+use Rattle.events.proofs.Laws.Sums.{same-account}
+use Rattle.events.proofs.Laws.Counting.{Shows, shows-counted}
+use Rattle.events.proofs.Laws.Balancing.{datas-balance, replies-balance}
+use Rattle.events.proofs.Laws.Tables.{few-datas, few-replies}
+use Rattle.lists.specs.Account.{account}
+use Rattle.lists.proofs.Laws.Accounts as accounts
 use Rattle.events.proofs.Laws.Rises.{outstanding-fits, rises}
 
 abbrev pub reached : Link → Counts → List ℕ → Moved
-reached link counts rec = record { state = link_state link; counts = counts; buffer = rec }
+reached link counts rec = record { state = link_state link; counts = rows_of counts; buffer = rec }
 
 pub record Going (bytes supply rec₀ ans₀ : List ℕ) (k : Link) (rec ans : List ℕ) (link : Link) (counts : Counts) (i : ℕ) : Type 0 where
   pub sound : sound_link link ≡ true
@@ -38,6 +47,10 @@ pub record Going (bytes supply rec₀ ans₀ : List ℕ) (k : Link) (rec ans : L
   pub recorded : 16 * counts.recorded ≤ length rec
   pub balance : counts.acknowledged + outstanding (link_state link).mat ≡ counts.sent + outstanding (link_state k).mat
   pub moved : after_all supply (reached link counts rec) (events (drop (2 * i) bytes)) ≡ after_all supply (unmoved (link_state k) rec₀) (events bytes)
+  pub datas : more_messages counts.datas (account data_account supply (reached link counts rec) (events (drop (2 * i) bytes)))
+      ≡ account data_account supply (unmoved (link_state k) rec₀) (events bytes)
+  pub replies : more_messages counts.replies (account reply_account supply (reached link counts rec) (events (drop (2 * i) bytes)))
+      ≡ account reply_account supply (unmoved (link_state k) rec₀) (events bytes)
   pub numbers : take i ans ++ answers supply (reached link counts rec) (events (drop (2 * i) bytes)) ≡ answers supply (unmoved (link_state k) rec₀) (events bytes)
   pub behind : drop i ans ≡ drop i ans₀
   pub still : all refuses (take i ans) ≡ true → link ≡ k
@@ -59,14 +72,21 @@ room bytes supply rec₀ ans₀ k rec ans link counts i g h z f =
 
 -- the counts stay far from the end of their range
 pub has-room : (bytes supply rec₀ ans₀ : List ℕ) (k : Link) (rec ans : List ℕ) (link : Link) (counts : Counts) (i : ℕ)
-    → Going bytes supply rec₀ ans₀ k rec ans link counts i → sound_link k ≡ true → length supply < 9223372036854775808 → length rec < 9223372036854775808
-    → HasRoom counts
-has-room bytes supply rec₀ ans₀ k rec ans link counts i g s a b =
+    → Going bytes supply rec₀ ans₀ k rec ans link counts i → sound_link k ≡ true → length bytes < 9223372036854775808
+    → length supply < 9223372036854775808 → length rec < 9223372036854775808 → HasRoom counts
+unfolding link_state
+has-room bytes supply rec₀ ans₀ k rec ans link counts i g s short a b =
     let o = outstanding-fits k s in
     let sent = g.sent in
     let recorded = g.recorded in
     let balance = g.balance in
-    (omega arith, omega arith, omega arith)
+    let n = event-count bytes in (
+      omega arith,
+      omega arith,
+      omega arith,
+      accounts.room data_account (λ (t : LinkState). length t.datas) datas-balance supply (unmoved (link_state k) rec₀) (events bytes) _ _ g.datas (few-datas k (parts k s)) (omega arith),
+      accounts.room reply_account (λ (t : LinkState). length t.replies) replies-balance supply (unmoved (link_state k) rec₀) (events bytes) _ _ g.replies (few-replies k (parts k s)) (omega arith),
+    )
 
 -- what stayed and stayed again
 pub lent-on : (a b c : LentLink) → StaysLent a b → StaysLent b c → StaysLent a c
@@ -103,12 +123,22 @@ module _ (bytes supply rec₀ ans₀ : List ℕ) (k : Link) (rec ans : List ℕ)
   abbrev did : Moved
   did = stepped (drop (16 * counts.sent) supply) (drop (16 * counts.recorded) rec) (link_state link) here
 
-  did-is : reached link' counts' after ≡ record { state = did.state; counts = added counts did.counts; buffer = did.buffer }
-  did-is = counted-shows link _ _ _ counts here link' counts' r m
+  shown : Shows link (drop (16 * counts.sent) supply) (drop (16 * counts.recorded) rec) after counts here link' counts'
+  shown = shows-counted link _ _ _ counts here link' counts' r m
 
   later-is : later ≡ next supply (reached link counts rec) here
   unfolding next continued
-  later-is = ap (λ (x : Moved). record { state = x.state; counts = x.counts; buffer = take (16 * counts.recorded) rec ++ x.buffer }) did-is
+  later-is = ap (λ (x : Moved). record { state = x.state; counts = x.counts; buffer = take (16 * counts.recorded) rec ++ x.buffer }) shown.moved
+
+  goes-datas : more_messages counts'.datas (account data_account supply later (events (drop (2 * (i + 1)) bytes))) ≡ account data_account supply (unmoved (link_state k) rec₀) (events bytes)
+  goes-datas =
+      accounts.one-more data_account supply (reached link counts rec) later here (events (drop (2 * (i + 1)) bytes)) counts.datas counts'.datas _ shown.datas later-is
+      (ap (λ es. more_messages counts.datas (account data_account supply (reached link counts rec) es)) (sym (event-at bytes i h)) ∙ g.datas)
+
+  goes-replies : more_messages counts'.replies (account reply_account supply later (events (drop (2 * (i + 1)) bytes))) ≡ account reply_account supply (unmoved (link_state k) rec₀) (events bytes)
+  goes-replies =
+      accounts.one-more reply_account supply (reached link counts rec) later here (events (drop (2 * (i + 1)) bytes)) counts.replies counts'.replies _ shown.replies later-is
+      (ap (λ es. more_messages counts.replies (account reply_account supply (reached link counts rec) es)) (sym (event-at bytes i h)) ∙ g.replies)
 
   goes_moved : after_all supply later (events (drop (2 * (i + 1)) bytes)) ≡ after_all supply (unmoved (link_state k) rec₀) (events bytes)
   unfolding after_all
@@ -150,10 +180,10 @@ module _ (bytes supply rec₀ ans₀ : List ℕ) (k : Link) (rec ans : List ℕ)
   pub goes : Going bytes supply rec₀ ans₀ k (take (16 * counts.recorded) rec ++ after) (set ans i (number_of r)) link' counts' (i + 1)
   goes =
       let u = rises (drop (16 * counts.sent) supply) (drop (16 * counts.recorded) rec) (link_state link) here in
-      let sent = ap (λ (x : Moved). x.counts.sent) did-is in
-      let acknowledged = ap (λ (x : Moved). x.counts.acknowledged) did-is in
-      let recorded = ap (λ (x : Moved). x.counts.recorded) did-is in
-      let out = ap (λ (x : Moved). outstanding x.state.mat) did-is in
+      let sent = ap (λ (x : Moved). x.counts.sent) shown.moved in
+      let acknowledged = ap (λ (x : Moved). x.counts.acknowledged) shown.moved in
+      let recorded = ap (λ (x : Moved). x.counts.recorded) shown.moved in
+      let out = ap (λ (x : Moved). outstanding x.state.mat) shown.moved in
       let d = length-drop (16 * counts.sent) supply in
       let b = length-drop (16 * counts.recorded) rec in
       let t = length-take-le (16 * counts.recorded) rec g.recorded in
@@ -165,6 +195,8 @@ module _ (bytes supply rec₀ ans₀ : List ℕ) (k : Link) (rec ans : List ℕ)
         recorded = omega arith;
         balance = omega arith;
         moved = goes_moved;
+        datas = goes-datas;
+        replies = goes-replies;
         numbers = goes-numbers;
         behind = goes-behind;
         still = goes-still;
@@ -203,16 +235,27 @@ module _ (bytes supply rec₀ ans₀ : List ℕ) (k : Link) (rec ans : List ℕ)
 -- the loop's end
 pub finishes : (bytes supply rec₀ ans₀ : List ℕ) (k : Link) (rec ans : List ℕ) (link : Link) (counts : Counts) (i : ℕ) → length bytes % 2 ≡ 0 → i ≡ length bytes / 2
     → length bytes / 2 ≤ length ans → Going bytes supply rec₀ ans₀ k rec ans link counts i
-    → record { moved = reached link counts rec; answers = ans } ≡ running k bytes supply rec₀ ans₀
-unfolding after_all answers
+    → record { state = link_state link; counts = counts; buffer = rec; answers = ans } ≡ running k bytes supply rec₀ ans₀
+unfolding after_all answers account
 finishes bytes supply rec₀ ans₀ k rec ans link counts i z e f g =
-    λ j. record { moved = moved-is j; answers = answers-are j }
+    λ j. record {
+      state = (moved-is j).state;
+      counts = counts_of (moved-is j).counts (datas-are j) (replies-are j);
+      buffer = (moved-is j).buffer;
+      answers = answers-are j;
+    }
   where
     none_left : events (drop (2 * i) bytes) ≡ []
     none_left = ap events (drop_of_length-le bytes {i = 2 * i} (omega arith))
 
     moved-is : reached link counts rec ≡ after_all supply (unmoved (link_state k) rec₀) (events bytes)
     moved-is = sym (ap (after_all supply (reached link counts rec)) none_left) ∙ g.moved
+
+    datas-are : counts.datas ≡ account data_account supply (unmoved (link_state k) rec₀) (events bytes)
+    datas-are = same-account counts.datas ∙ sym (ap (λ es. more_messages counts.datas (account data_account supply (reached link counts rec) es)) none_left) ∙ g.datas
+
+    replies-are : counts.replies ≡ account reply_account supply (unmoved (link_state k) rec₀) (events bytes)
+    replies-are = same-account counts.replies ∙ sym (ap (λ es. more_messages counts.replies (account reply_account supply (reached link counts rec) es)) none_left) ∙ g.replies
 
     given : take i ans ≡ answers supply (unmoved (link_state k) rec₀) (events bytes)
     given = sym (append-nil (take i ans)) ∙ ap (λ es. take i ans ++ answers supply (reached link counts rec) es) (sym none_left) ∙ g.numbers

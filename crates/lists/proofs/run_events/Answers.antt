@@ -3,7 +3,7 @@ use Rattle.lists.proofs.Laws.Running.{room, turn, has-room, lent-on, finishes}
 use Rattle.lists.proofs.run_events.Goals as goal
 
 pub event-answer-requires : goal.event-answer-requires
-event-answer-requires c = let g = c.loop-i.invariant.going in (g.sound, has-room _ _ _ _ _ _ _ _ _ _ g c.requires.0 (omega arith) (omega (arith, g.same-record)))
+event-answer-requires c = let g = c.loop-i.invariant.going in (g.sound, has-room _ _ _ _ _ _ _ _ _ _ g c.requires.0 (omega arith) (omega arith) (omega (arith, g.same-record)))
 
 pub loop-i-preserved : goal.loop-i-preserved
 loop-i-preserved c = let g = c.loop-i.invariant.going in let r = room _ _ _ _ _ _ _ _ _ _ g c.loop-i-test.true c.requires.1 c.requires.2 in record {

@@ -1,17 +1,15 @@
 -- How far the counts of a ride can reach, and how many answers it gives.
 use Prim.Native.Nat.{ℕ, ◌*◌, ◌/◌, ◌≤◌}
-use mathlib.Core.Path.{◌≡◌, refl, sym, ◌∙◌}
-use mathlib.Core.List.{List, [], ◌∷◌, ◌++◌}
+use mathlib.Core.Path.{◌≡◌, refl, ◌∙◌}
+use mathlib.Core.List.{List, [], ◌∷◌}
 use native.Mathlib.Omega.{arith}
-use lib.Dec.{eqb}
 use lib.ListN.{length}
-use borrow.Author.Tests.{eqb-true}
 use Rattle.limits.specs.declared.Limits.{Limits}
 use Rattle.limits.specs.Limits.{limits_questions, accepted}
-use Rattle.limits.specs.Questions.{Question, first_no}
+use Rattle.limits.specs.Questions.{first_no}
 use Rattle.limits.specs.Events.{Event, events}
-use Rattle.limits.proofs.Laws.Choice.{test}
-use Rattle.limits.proofs.Laws.Questions.{first-stays}
+use Rattle.limits.proofs.Laws.Questions.{front-passed}
+use Rattle.limits.proofs.Laws.Events.{event-count}
 use Rattle.limits.proofs.Laws.Good.{Good, good, accepted-sound}
 use Rattle.unbounded.specs.Ends.{Ends, fresh}
 use Rattle.unbounded.specs.Rules.{after}
@@ -35,10 +33,6 @@ bounded-all l g supply space s [] i c = record { acknowledged = i.base.low; reco
 bounded-all l g supply space s (e ∷ es) i c =
     bounded-all l g supply space (after l supply space s e) es (keep-after l g supply space s e i) (carried-after l g supply space s e i c)
 
--- the first questions of a list that gives no number
-front-passed : (qs rest : List Question) → first_no (qs ++ rest) ≡ 0 → first_no qs ≡ 0
-front-passed qs rest e = test (eqb (first_no qs) 0) (λ h. eqb-true _ _ h) (λ h. sym (first-stays qs rest h) ∙ e)
-
 -- the unbounded ends after a ride that is not refused
 pub bounded : (asked : Limits) (bytes supply answers : List ℕ) (space : ℕ) → first_no (ride_questions asked bytes supply answers) ≡ 0
     → Bounded supply (ends_of asked bytes supply space)
@@ -52,11 +46,6 @@ answer-each : (l : Limits) (supply : List ℕ) (space : ℕ) (s : Ends) (es : Li
 unfolding answers
 answer-each l supply space s [] = refl
 answer-each l supply space s (e ∷ es) = let h = answer-each l supply space (after l supply space s e) es in omega arith
-
-event-count : (bytes : List ℕ) → length (events bytes) ≡ length bytes / 2
-event-count [] = refl
-event-count (kind ∷ []) = refl
-event-count (kind ∷ argument ∷ rest) = let h = event-count rest in omega arith
 
 pub answer-count : (asked : Limits) (bytes supply : List ℕ) (space : ℕ) → length (answers_of asked bytes supply space) ≡ length bytes / 2
 unfolding answers_of

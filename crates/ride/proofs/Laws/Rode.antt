@@ -23,19 +23,22 @@ use Rattle.std.specs.Prelude.{Result, Ok, Err}
 use Rattle.std.specs.Result.{IsErrAnd}
 use Rattle.limits.specs.declared.answer.Refusal.{Refusal}
 use Rattle.events.specs.declared.Link.{Link}
-use Rattle.events.specs.State.{Moved, no_counts, risen, unmoved}
+use Rattle.events.specs.State.{LinkState, unmoved}
+use Rattle.events.specs.Counts.{Account, counts_of, no_counts, risen}
+use Rattle.events.specs.Account.{data_account, reply_account}
+use Rattle.lists.specs.Account.{account}
 use Rattle.lists.specs.Runs as runs
 use Rattle.events.specs.View.{link_state, sound_link}
 use Rattle.lists.specs.View.{Run, running}
 use Rattle.runs.specs.View.{Ran, lent_questions}
-use Rattle.runs.proofs.Laws.Calls.{run-shows}
+use Rattle.runs.proofs.Laws.Calls.{none-ran, run-shows}
 use Rattle.link.specs.View.{Opened}
 use Rattle.agreement.specs.Calls.{run, Made, start, end_of, all_events}
 use Rattle.agreement.specs.Agreed.{Same, Agreed}
 use Rattle.agreement.proofs.Laws.Shift.{length-answers}
 use Rattle.agreement.proofs.Laws.Fresh.{opened, fresh-sound}
 use Rattle.agreement.proofs.Theorem.{demand-3}
-use Rattle.ride.specs.Ride.{ride_questions, ends_of, answers_of, Riding, riding, Rode}
+use Rattle.ride.specs.Ride.{ride_questions, ends_of, answers_of, account_in, Riding, riding, Rode}
 
 -- the first no of what is lent
 abbrev lent : List ℕ → List ℕ → List ℕ → ℕ
@@ -96,17 +99,17 @@ module _ (asked : Limits) (bytes supply before answers_before : List ℕ) where
     agreed : Agreed (accepted asked) supply before (start k before) (made bytes answers_before k' r after answers_after ∷ [])
     agreed = demand-3 asked k opens supply before (made bytes answers_before k' r after answers_after ∷ []) (ran, tt)
 
-    abbrev left : Moved
-    left = record { state = link_state k'; counts = risen r; buffer = after }
+    abbrev gave : Run
+    gave = record { state = link_state k'; counts = risen r; buffer = after; answers = answers_after }
 
-    shown : ◌≡◌ {A = Run} (record { moved = left; answers = answers_after })
-        (pick (eqb (first_no (ask 4 (sound_link k) ∷ lent_questions bytes supply answers_before)) 0) (running k bytes supply before answers_before)
-        (record { moved = unmoved (link_state k) before; answers = answers_before }))
+    shown : gave
+        ≡ pick (eqb (first_no (ask 4 (sound_link k) ∷ lent_questions bytes supply answers_before)) 0) (running k bytes supply before answers_before)
+        (none-ran k before answers_before)
     shown = run-shows _ k bytes supply before answers_before k' after answers_after r ran.called
 
     -- where everything was lent as it must be
     module _ (e : eqb (lent bytes supply answers_before) 0 ≡ true) where
-      shows : ◌≡◌ {A = Run} (record { moved = left; answers = answers_after }) (running k bytes supply before answers_before)
+      shows : gave ≡ running k bytes supply before answers_before
       shows = shown ∙ pick_yes _ _ _ _ (ap (λ n. eqb n 0) run-asks ∙ e) refl
 
       all-events : all_events supply (made bytes answers_before k' r after answers_after ∷ []) ≡ events bytes
@@ -131,6 +134,10 @@ module _ (asked : Limits) (bytes supply before answers_before : List ℕ) where
           ∙ agreed.answers
           ∙ ap (unbounded.answers (accepted asked) supply (length before) fresh) all-events
 
+      -- the link that was opened is the fresh one
+      from_fresh : (of_event : LinkState → Event → Account) → account of_event supply (unmoved (link_state k) before) (events bytes) ≡ account_in of_event asked bytes supply before
+      from_fresh of_event = ap (λ y. account of_event supply (unmoved (link_state y) before) (events bytes)) (opened asked k opens).0
+
       rides : ◌≡◌ {A = Riding} (record { counts = risen r; buffer = after; answers = answers_after }) (riding asked bytes supply before answers_before)
       rides =
           let s = ends_of asked bytes supply (length before) in
@@ -138,7 +145,8 @@ module _ (asked : Limits) (bytes supply before answers_before : List ℕ) where
           let acknowledged : (risen r).acknowledged ≡ s.oldest = (let h = same.acknowledged in omega arith) in
           let recorded : (risen r).recorded ≡ s.wanted = (let h = same.recorded in omega arith) in
           λ i. record {
-            counts = record { sent = sent i; acknowledged = acknowledged i; recorded = recorded i };
+            counts = counts_of (record { sent = sent i; acknowledged = acknowledged i; recorded = recorded i })
+                ((ap (λ (x : Run). x.counts.datas) shows ∙ from_fresh data_account) i) ((ap (λ (x : Run). x.counts.replies) shows ∙ from_fresh reply_account) i);
             buffer = (same.record_is ∙ ap (◌++ drop (16 * (ends_of asked bytes supply (length before)).wanted) before) same.rows_in_order) i;
             answers = (ap (λ (x : Run). x.answers) shows ∙ ap (◌++ drop (length bytes / 2) answers_before) own) i;
           }
@@ -147,7 +155,7 @@ module _ (asked : Limits) (bytes supply before answers_before : List ℕ) where
         → ◌≡◌ {A = Riding} (record { counts = risen r; buffer = after; answers = answers_after })
         (record { counts = no_counts; buffer = before; answers = answers_before })
     refused e =
-        ap (λ (x : Run). record { counts = x.moved.counts; buffer = x.moved.buffer; answers = x.answers })
+        ap (λ (x : Run). record { counts = x.counts; buffer = x.buffer; answers = x.answers })
         (shown ∙ pick_no _ _ _ _ (ap (λ n. eqb n 0) run-asks ∙ e) refl)
 
     number : number_of r ≡ lent bytes supply answers_before

@@ -19,7 +19,7 @@ use Rattle.limits.proofs.Laws.Promise.{refusal-not-0, changed-handed_on}
 use Rattle.limits.proofs.Laws.Questions.{each}
 use Rattle.events.specs.declared.Link.{Link}
 use Rattle.events.specs.declared.Counts.{Counts}
-use Rattle.events.specs.State.{no_counts, risen, unmoved}
+use Rattle.events.specs.Counts.{no_counts, risen}
 use Rattle.events.specs.Rules.{questions}
 use Rattle.events.specs.View.{link_state, sound_link, Counted}
 use Rattle.lists.specs.View.{Run, refuses, running}
@@ -81,7 +81,7 @@ module _ (k : Link) (bytes supply before answers : List ℕ) where
     run-asked r x i f = run-refused r x i (no-later 4 (sound_link k) (lent_questions bytes supply answers) _ e f)
 
     pub run-done : (after answers_after : List ℕ) (k' : Link) (n : Counts) → 0 ≡ first_no (lent_questions bytes supply answers) → sound_link k' ≡ true
-        → record { moved = record { state = link_state k'; counts = n; buffer = after }; answers = answers_after } ≡ running k bytes supply before answers
+        → record { state = link_state k'; counts = n; buffer = after; answers = answers_after } ≡ running k bytes supply before answers
         → (all refuses (take (length bytes / 2) answers_after) ≡ true → k' ≡ k)
         → Ran k bytes supply before after answers answers_after k' (Ok n)
     run-done after answers_after k' n f h t same =
@@ -91,26 +91,29 @@ module _ (k : Link) (bytes supply before answers : List ℕ) where
                 answered =
                     record {
                       number = no-later 4 (sound_link k) (lent_questions bytes supply answers) 0 e f;
-                      value = ap (λ (x : Run). x.moved.counts) t;
+                      value = ap (λ (x : Run). x.counts) t;
                     };
-                left = λ i. ((t i).moved.state, (t i).moved.buffer, (t i).answers);
+                left = λ i. ((t i).state, (t i).buffer, (t i).answers);
                 kept = tt;
                 stays = λ _. h;
               };
           still = same;
         }
 
+-- what a refused run leaves
+abbrev pub none-ran : Link → List ℕ → List ℕ → Run
+none-ran k before answers_before = record { state = link_state k; counts = no_counts; buffer = before; answers = answers_before }
+
 -- what a run shows, done or refused
 pub run-shows : (done : Run) (k : Link) (bytes supply before answers_before : List ℕ) (k' : Link) (after answers_after : List ℕ) (r : Result Counts Refusal)
     → RunCall done k bytes supply before answers_before k' after answers_after r
-    → record { moved = record { state = link_state k'; counts = risen r; buffer = after }; answers = answers_after }
-    ≡ pick (eqb (first_no (ask 4 (sound_link k) ∷ lent_questions bytes supply answers_before)) 0) done
-    (record { moved = unmoved (link_state k) before; answers = answers_before })
+    → record { state = link_state k'; counts = risen r; buffer = after; answers = answers_after }
+    ≡ pick (eqb (first_no (ask 4 (sound_link k) ∷ lent_questions bytes supply answers_before)) 0) done (none-ran k before answers_before)
 run-shows done k bytes supply before answers_before k' after answers_after (Ok n) c =
-    (λ i. record { moved = record { state = (c.left i).0; counts = c.answered.value i; buffer = (c.left i).1 }; answers = (c.left i).2 })
+    (λ i. record { state = (c.left i).0; counts = c.answered.value i; buffer = (c.left i).1; answers = (c.left i).2 })
     ∙ sym (pick_yes _ _ _ _ (eq-eqb _ _ (sym c.answered.number)) refl)
 run-shows done k bytes supply before answers_before k' after answers_after (Err x) c =
-    (λ i. record { moved = unmoved (link_state (c.kept i).0) (c.kept i).1; answers = (c.kept i).2 })
+    (λ i. none-ran (c.kept i).0 (c.kept i).1 (c.kept i).2)
     ∙ sym (pick_no _ _ _ _ (ap (λ n. eqb n 0) (sym c.answered.number) ∙ refusal-not-0 x) refl)
 
 -- 5, 6 and 7, one after the other

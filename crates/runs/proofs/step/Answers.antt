@@ -12,7 +12,10 @@ pub returns-then-supply-ne0-clause-stepped : goal.returns-then-supply-ne0-clause
 returns-then-supply-ne0-clause-stepped c = step_partial (lent_link c.args.link.now) c.args.kind c.args.argument _ _ (sym c.if-not-is_sound.ensures) c.if-supply-ne0.true
 
 pub event-requires : goal.event-requires
-event-requires c = let z = c.default-counts.ensures in (sym c.if-not-is_sound.ensures, (omega arith, omega arith, omega arith))
+event-requires c = let z = c.default-counts.ensures in (
+  sym c.if-not-is_sound.ensures,
+  (omega arith, omega arith, omega arith, (omega arith, omega arith, omega arith, omega arith), (omega arith, omega arith, omega arith, omega arith)),
+)
 
 pub returns-in_err-event-clause-stepped : goal.returns-in_err-event-clause-stepped
 returns-in_err-event-clause-stepped c =

@@ -15,7 +15,8 @@ use Rattle.events.specs.View.{link_state}
 use Rattle.events.specs.Lent.{lent_link}
 use Rattle.events.proofs.Laws.Parts.{parts}
 use Rattle.events.proofs.Laws.Ends.{same-mat}
-use Rattle.events.proofs.Laws.Counting.{counts-are, counted, handed-counted}
+use Rattle.events.proofs.Laws.Counting.{done-counted, handed-counted}
+use Rattle.events.proofs.Laws.Sums.{counts-sum, rows-acknowledged, message-arrived, same-account}
 use Rattle.events.proofs.Laws.Rises.{acknowledged-few}
 use Rattle.events.proofs.Laws.Messages.{there, found-sound}
 use Rattle.events.proofs.Laws.Tables.{reply-below}
@@ -48,9 +49,9 @@ remove-requires c = let k = lent_link c.args.self.now in let p = parts k c.requi
 pub returns-clause-counted : goal.returns-clause-counted
 returns-clause-counted c = λ supply b. let k = lent_link c.args.self.now in let p = parts k c.requires.0 in
     let a = rw c.acknowledge.ensures.stays at (rw c.in_ok-acknowledged.was at c.acknowledge.ensures.acknowledges) in
-    counted k supply b b (arrive_reply c.args.p) _ _ _ _ _
+    done-counted k supply b b (arrive_reply c.args.p) _ _ _ _ _
     (acknowledged k p _ c.in_ok-reply.reply c.in_ok-reply.ensures _ _ a _ supply b (c.remove.ensures.removed k.limits p.replies))
-    (λ e. counts-are _ _ (omega arith) (omega arith) (omega arith))
+    (λ e. counts-sum _ _ _ _ _ (rows-acknowledged _ _ _ e) (same-account _) (message-arrived _))
 
 pub overflow_add-counts : goal.overflow_add-counts
 overflow_add-counts c =

@@ -13,7 +13,8 @@ use Rattle.air.specs.Replies.{reply_messages}
 use Rattle.events.specs.View.{link_state}
 use Rattle.events.specs.Lent.{lent_link}
 use Rattle.events.proofs.Laws.Parts.{parts}
-use Rattle.events.proofs.Laws.Counting.{counts-are, counted, refused-counted, handed-counted}
+use Rattle.events.proofs.Laws.Counting.{done-counted, refused-counted, handed-counted}
+use Rattle.events.proofs.Laws.Sums.{counts-sum, rows-recorded, message-put, same-account}
 use Rattle.events.proofs.Laws.Tables.{reply-room}
 use Rattle.events.proofs.Laws.Replying.{nothing-ready, record-full, table-full, all_pass, some-ready, count_fits, replies}
 use Rattle.events.proofs.LentLink.reply.Goals as goal
@@ -60,11 +61,11 @@ returns-clause-counted c = λ supply. let k = lent_link c.args.self.now in let p
     let v = c.record_run-run.ensures.moves in
     let some = some-ready (pad_state k.limits.window k.pad) a.number in
     let sound = ap (λ (x : Replying). sound_reply k.limits x.reply) v.1 ∙ replying-sound k.limits p.limits k.pad p.pad c.args.«record».now some in
-    counted k supply _ _ reply _ _ _ _ _
+    done-counted k supply _ _ reply _ _ _ _ _
     (replies k p c.args.«record».now _
     (all_pass (pad_state k.limits.window k.pad) _ (reply_messages k.replies) some _ a.value (omega (arith, c.if-record-count.false)) (reply-room k.replies _ (sym c.if-not-has_room.ensures)))
     _ _ _ v.0 v.1 _ supply (c.put.ensures.put p.replies sound))
-    (λ e. counts-are _ _ (omega arith) (omega arith) (omega arith))
+    (λ e. counts-sum _ _ _ _ _ (rows-recorded _ _ _ e) (same-account _) (message-put _))
 
 pub overflow_add-counts : goal.overflow_add-counts
 overflow_add-counts c = let k = lent_link c.args.self.now in let p = parts k c.requires.0 in

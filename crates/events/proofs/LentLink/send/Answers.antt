@@ -15,7 +15,8 @@ use Rattle.air.specs.Data.{data_messages}
 use Rattle.events.specs.View.{link_state}
 use Rattle.events.specs.Lent.{lent_link}
 use Rattle.events.proofs.Laws.Parts.{parts}
-use Rattle.events.proofs.Laws.Counting.{counts-are, counted, refused-counted, handed-counted}
+use Rattle.events.proofs.Laws.Counting.{done-counted, refused-counted, handed-counted}
+use Rattle.events.proofs.Laws.Sums.{counts-sum, row-sent, message-put, same-account}
 use Rattle.events.proofs.Laws.Tables.{data-room}
 use Rattle.events.proofs.Laws.Sending.{sends}
 use Rattle.events.proofs.LentLink.send.Goals as goal
@@ -49,6 +50,6 @@ unfolding link_state all
 returns-clause-counted c = λ b. let k = lent_link c.args.self.now in let p = parts k c.requires.0 in
     let v = c.keep-data.ensures.sends c.args.supply.now c.in_ok-row.ensures in
     let sound = ap (sound_data k.limits) v.answered.value ∙ sending-sound k.limits k.mat p.limits p.mat c.args.supply.now (sym v.answered.number) in
-    counted k c.args.supply.now b b send (tt {0}) _ _ _ _
+    done-counted k c.args.supply.now b b send (tt {0}) _ _ _ _
     (sends k p _ _ _ _ (rw c.keep-data.ensures.stays at v) _ b refl (data-room k.datas _ (sym c.if-not-has_room.ensures)) (c.put.ensures.put p.datas sound))
-    (λ e. counts-are _ _ refl (omega arith) (omega arith))
+    (λ e. counts-sum _ _ _ _ _ (row-sent _) (message-put _) (same-account _))

@@ -19,15 +19,15 @@ returns-then-d-eq0 g c =
     (time-refused c.args.d (let h = c.if-d-eq0.true in omega arith) ∙ sym (sound-first (time_questions c.args.d) _ (sym c.is_sound.ensures ∙ c.if-not-is_sound.false)))
     refl
 
-pub age-requires : goal.age-requires
-age-requires g c =
+pub age-self-requires : goal.age-self-requires
+age-self-requires g c =
     let t = c.args.self.now in
     (omega arith, count-few g.M.Carried.form t.count t.words c.args.l (and_right (sound_limits c.args.l) _ (sym c.is_sound.ensures ∙ c.if-not-is_sound.false)))
 
 pub returns : goal.returns
 returns g c =
     let s = sym c.is_sound.ensures ∙ c.if-not-is_sound.false in
-    let k = c.age.ensures.aged c.args.l (and_right (sound_limits c.args.l) _ s) in
+    let k = c.age-self.ensures.aged c.args.l (and_right (sound_limits c.args.l) _ s) in
     changed-done _ _ _ _ _ _
     (sound-first (time_questions c.args.d) _ s ∙ sym (time-passed c.args.d (let k = c.if-d-eq0.false in omega arith)))
     k.1 k.0
