@@ -11,13 +11,13 @@ use Rattle.std.specs.Result.{IsErrAnd}
 use Rattle.limits.specs.declared.answer.Refusal.{Refusal}
 use Rattle.limits.specs.Answer.{refusal_number}
 use Rattle.limits.specs.Events.{Event}
-use Rattle.limits.specs.Questions.{Question, Answer, first_no}
+use Rattle.limits.specs.Questions.{pick, Question, Answer, first_no}
 use Rattle.limits.proofs.Laws.Choice.{pick_yes, pick_no}
 use Rattle.limits.proofs.Laws.Promise.{refusal-not-0, changed-refused, changed-handed_on}
 use Rattle.events.specs.declared.Link.{Link}
 use Rattle.events.specs.declared.Counts.{Counts}
 use Rattle.events.specs.State.{LinkState, Moved, more_rows, unmoved}
-use Rattle.events.specs.Counts.{no_account, more_messages, rows_of, no_counts, added}
+use Rattle.events.specs.Counts.{Account, no_account, more_messages, rows_of, no_counts, added}
 use Rattle.events.specs.Rules.{questions, acted, stepped}
 use Rattle.events.specs.Account.{data_account, reply_account, if_done, counted}
 use Rattle.events.specs.View.{link_state, LinkCall, Counted}
@@ -93,6 +93,13 @@ module _ (k : Link) (supply before after : List ℕ) (n : Counts) (e : Event) (k
   abbrev did : Moved
   did = acted supply before (link_state k) e
 
+  -- one table's account, of an event that is done and of one that is refused
+  account-done : (a b x : Account) → flag ≡ true → b ≡ more_messages a x → b ≡ more_messages a (pick flag x no_account)
+  account-done a b x f e = e ∙ sym (ap (more_messages a) (pick_yes flag x no_account x f refl))
+
+  account-refused : (a b x : Account) → flag ≡ false → b ≡ a → b ≡ more_messages a (pick flag x no_account)
+  account-refused a b x f e = e ∙ same-account a ∙ sym (ap (more_messages a) (pick_no flag x no_account no_account f refl))
+
   pub shows-counted : (r : Answer) → Counted k supply before after n e k' n' r → Shows k supply before after n e k' n'
   unfolding stepped
   shows-counted (Ok v) m =
@@ -102,12 +109,8 @@ module _ (k : Link) (supply before after : List ℕ) (n : Counts) (e : Event) (k
         moved =
             (λ i. record { state = (m.left i).0; counts = rows_of (m.left i).2; buffer = (m.left i).1 })
             ∙ sym (ap (moved_on n) (pick_yes flag did (unmoved (link_state k) before) did yes refl));
-        datas =
-            ap (λ (c : Counts). c.datas) counts
-            ∙ sym (ap (more_messages n.datas) (pick_yes flag (data_account (link_state k) e) no_account (data_account (link_state k) e) yes refl));
-        replies =
-            ap (λ (c : Counts). c.replies) counts
-            ∙ sym (ap (more_messages n.replies) (pick_yes flag (reply_account (link_state k) e) no_account (reply_account (link_state k) e) yes refl));
+        datas = account-done n.datas n'.datas (data_account (link_state k) e) yes (ap (λ (c : Counts). c.datas) counts);
+        replies = account-done n.replies n'.replies (reply_account (link_state k) e) yes (ap (λ (c : Counts). c.replies) counts);
       }
   shows-counted (Err x) m =
       let no : flag ≡ false = ap (λ a. eqb a 0) (sym m.answered.number) ∙ refusal-not-0 x in
@@ -117,12 +120,8 @@ module _ (k : Link) (supply before after : List ℕ) (n : Counts) (e : Event) (k
             (λ i. record { state = link_state (m.kept i).0; counts = rows_of (m.kept i).2; buffer = (m.kept i).1 })
             ∙ ap (λ c. record { state = link_state k; counts = c; buffer = before }) (same-rows (rows_of n))
             ∙ sym (ap (moved_on n) (pick_no flag did (unmoved (link_state k) before) (unmoved (link_state k) before) no refl));
-        datas =
-            ap (λ (c : Counts). c.datas) counts ∙ same-account n.datas
-            ∙ sym (ap (more_messages n.datas) (pick_no flag (data_account (link_state k) e) no_account no_account no refl));
-        replies =
-            ap (λ (c : Counts). c.replies) counts ∙ same-account n.replies
-            ∙ sym (ap (more_messages n.replies) (pick_no flag (reply_account (link_state k) e) no_account no_account no refl));
+        datas = account-refused n.datas n'.datas (data_account (link_state k) e) no (ap (λ (c : Counts). c.datas) counts);
+        replies = account-refused n.replies n'.replies (reply_account (link_state k) e) no (ap (λ (c : Counts). c.replies) counts);
       }
 
 -- a promise by another name of the event

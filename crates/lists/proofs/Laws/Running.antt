@@ -23,9 +23,9 @@ use Rattle.events.specs.declared.LentLink.{LentLink}
 use Rattle.events.specs.Lent.{StaysLent}
 use Rattle.events.specs.declared.Counts.{Counts}
 use Rattle.events.specs.State.{LinkState, Moved, unmoved}
-use Rattle.events.specs.Counts.{more_messages, counts_of, rows_of}
+use Rattle.events.specs.Counts.{Account, more_messages, counts_of, rows_of}
 use Rattle.events.specs.Rules.{stepped}
-use Rattle.events.specs.Account.{data_account, reply_account}
+use Rattle.events.specs.Account.{data_account, reply_account, if_done}
 use Rattle.lists.specs.Runs.{continued, next, after_all, answers}
 use Rattle.events.specs.View.{link_state, sound_link, Counted, HasRoom}
 use Rattle.lists.specs.View.{refuses, running}
@@ -130,15 +130,14 @@ module _ (bytes supply rec₀ ans₀ : List ℕ) (k : Link) (rec ans : List ℕ)
   unfolding next continued
   later-is = ap (λ (x : Moved). record { state = x.state; counts = x.counts; buffer = take (16 * counts.recorded) rec ++ x.buffer }) shown.moved
 
-  goes-datas : more_messages counts'.datas (account data_account supply later (events (drop (2 * (i + 1)) bytes))) ≡ account data_account supply (unmoved (link_state k) rec₀) (events bytes)
-  goes-datas =
-      accounts.one-more data_account supply (reached link counts rec) later here (events (drop (2 * (i + 1)) bytes)) counts.datas counts'.datas _ shown.datas later-is
-      (ap (λ es. more_messages counts.datas (account data_account supply (reached link counts rec) es)) (sym (event-at bytes i h)) ∙ g.datas)
-
-  goes-replies : more_messages counts'.replies (account reply_account supply later (events (drop (2 * (i + 1)) bytes))) ≡ account reply_account supply (unmoved (link_state k) rec₀) (events bytes)
-  goes-replies =
-      accounts.one-more reply_account supply (reached link counts rec) later here (events (drop (2 * (i + 1)) bytes)) counts.replies counts'.replies _ shown.replies later-is
-      (ap (λ es. more_messages counts.replies (account reply_account supply (reached link counts rec) es)) (sym (event-at bytes i h)) ∙ g.replies)
+  -- one table's account
+  goes-account : (of_event : LinkState → Event → Account) (a a' : Account)
+      → a' ≡ more_messages a (if_done (drop (16 * counts.sent) supply) (drop (16 * counts.recorded) rec) (link_state link) here (of_event (link_state link) here))
+      → more_messages a (account of_event supply (reached link counts rec) (events (drop (2 * i) bytes))) ≡ account of_event supply (unmoved (link_state k) rec₀) (events bytes)
+      → more_messages a' (account of_event supply later (events (drop (2 * (i + 1)) bytes))) ≡ account of_event supply (unmoved (link_state k) rec₀) (events bytes)
+  goes-account of_event a a' p q =
+      accounts.one-more of_event supply (reached link counts rec) later here (events (drop (2 * (i + 1)) bytes)) a a' _ p later-is
+      (ap (λ es. more_messages a (account of_event supply (reached link counts rec) es)) (sym (event-at bytes i h)) ∙ q)
 
   goes_moved : after_all supply later (events (drop (2 * (i + 1)) bytes)) ≡ after_all supply (unmoved (link_state k) rec₀) (events bytes)
   unfolding after_all
@@ -195,8 +194,8 @@ module _ (bytes supply rec₀ ans₀ : List ℕ) (k : Link) (rec ans : List ℕ)
         recorded = omega arith;
         balance = omega arith;
         moved = goes_moved;
-        datas = goes-datas;
-        replies = goes-replies;
+        datas = goes-account data_account counts.datas counts'.datas shown.datas g.datas;
+        replies = goes-account reply_account counts.replies counts'.replies shown.replies g.replies;
         numbers = goes-numbers;
         behind = goes-behind;
         still = goes-still;
@@ -240,7 +239,7 @@ unfolding after_all answers account
 finishes bytes supply rec₀ ans₀ k rec ans link counts i z e f g =
     λ j. record {
       state = (moved-is j).state;
-      counts = counts_of (moved-is j).counts (datas-are j) (replies-are j);
+      counts = counts_of (moved-is j).counts (whole data_account counts.datas g.datas j) (whole reply_account counts.replies g.replies j);
       buffer = (moved-is j).buffer;
       answers = answers-are j;
     }
@@ -251,11 +250,10 @@ finishes bytes supply rec₀ ans₀ k rec ans link counts i z e f g =
     moved-is : reached link counts rec ≡ after_all supply (unmoved (link_state k) rec₀) (events bytes)
     moved-is = sym (ap (after_all supply (reached link counts rec)) none_left) ∙ g.moved
 
-    datas-are : counts.datas ≡ account data_account supply (unmoved (link_state k) rec₀) (events bytes)
-    datas-are = same-account counts.datas ∙ sym (ap (λ es. more_messages counts.datas (account data_account supply (reached link counts rec) es)) none_left) ∙ g.datas
-
-    replies-are : counts.replies ≡ account reply_account supply (unmoved (link_state k) rec₀) (events bytes)
-    replies-are = same-account counts.replies ∙ sym (ap (λ es. more_messages counts.replies (account reply_account supply (reached link counts rec) es)) none_left) ∙ g.replies
+    whole : (of_event : LinkState → Event → Account) (a : Account)
+        → more_messages a (account of_event supply (reached link counts rec) (events (drop (2 * i) bytes))) ≡ account of_event supply (unmoved (link_state k) rec₀) (events bytes)
+        → a ≡ account of_event supply (unmoved (link_state k) rec₀) (events bytes)
+    whole of_event a q = same-account a ∙ sym (ap (λ es. more_messages a (account of_event supply (reached link counts rec) es)) none_left) ∙ q
 
     given : take i ans ≡ answers supply (unmoved (link_state k) rec₀) (events bytes)
     given = sym (append-nil (take i ans)) ∙ ap (λ es. take i ans ++ answers supply (reached link counts rec) es) (sym none_left) ∙ g.numbers
