@@ -57,7 +57,7 @@ fn lines(out: &mut [u8], record: &[u16], first: usize, n: usize)
 {
     for i in 0..n {
         let row = first + i;
-        line::line(out, 23 * i, row, record, 16 * row);
+        line::line(out, 23 * i, row, &record[16 * row..16 * row + 16]);
     }
 }
 

@@ -1,13 +1,14 @@
 // Inner: called by page. One line, written at a place of a buffer that has room.
 // Stays (fixed memory): writers at a place, as those of `buffers`, and digits one by one, since `write!` gives an error that no
 // contract rules out.
-ghost use Rattle.std.specs.Prelude.{◌≡◌, ◌++◌, map, ◌+◌, ◌≤◌, ◌<◌, length, take, drop};
+ghost use Rattle.std.specs.Prelude.{◌≡◌, ◌++◌, map, ◌+◌, ◌≤◌, ◌<◌, length};
 ghost use Rattle.limits.specs.Cells.{torn};
 ghost use Rattle.buffers.specs.Ascii.{space};
 ghost use Rattle.buffers.specs.Buffers.{wrote};
 ghost use Rattle.page.specs.Page.{shade, printed, column, number_text, line_text};
 
 use limits::cells::TORN;
+use std::array;
 
 fn shade(cell: u16) -> u8
     requires { cell < torn }
@@ -54,22 +55,21 @@ fn number(out: &mut [u8], at: usize, n: usize)
     out[at..at + 6].copy_from_slice(&text);
 }
 
-// The 16 cells from `from` on.
-fn print_row(out: &mut [u8], at: usize, cells: &[u16], from: usize)
-    requires { (at + 16 ≤ length out.old) × (from + 16 ≤ length cells.now) }
-    ensures { out.new ≡ wrote at (map printed (take 16 (drop from cells.now))) out.old }
+// A character for each of the row's cells.
+fn print_row(out: &mut [u8], at: usize, row: &[u16])
+    requires { (length row.now ≡ 16) × (at + 16 ≤ length out.old) }
+    ensures { out.new ≡ wrote at (map printed row.now) out.old }
 {
-    for (i, cell) in cells[from..from + 16].iter().enumerate() {
-        out[at + i] = printed(*cell);
-    }
+    let text: [u8; 16] = array::from_fn(|i| printed(row[i]));
+    out[at..at + 16].copy_from_slice(&text);
 }
 
-// The line of row n, whose cells stand from `from` on.
-pub fn line(out: &mut [u8], at: usize, n: usize, cells: &[u16], from: usize)
-    requires { (at + 23 ≤ length out.old) × (from + 16 ≤ length cells.now) }
-    ensures { out.new ≡ wrote at (line_text n (take 16 (drop from cells.now))) out.old }
+// The line of row n.
+pub fn line(out: &mut [u8], at: usize, n: usize, row: &[u16])
+    requires { (length row.now ≡ 16) × (at + 23 ≤ length out.old) }
+    ensures { out.new ≡ wrote at (line_text n row.now) out.old }
 {
     number(out, at, n);
-    print_row(out, at + 6, cells, from);
+    print_row(out, at + 6, row);
     out[at + 22] = b'\n';
 }

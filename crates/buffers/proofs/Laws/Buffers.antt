@@ -6,8 +6,6 @@ use native.Mathlib.Nat.{suc-add}
 use native.Mathlib.Omega.{arith}
 use lib.ListN.{length, take, drop, set, length-append, drop_of_length-le, take-append-drop}
 use lib.Seq.{drop-nil, take_at, take_all, drop-drop, drop-append-add, sets, sets-eq}
-use Rattle.limits.specs.Lists.{tab}
-use Rattle.limits.proofs.Laws.Lists.{length-tab, tab-more}
 use Rattle.buffers.specs.Buffers.{wrote, Wrote}
 
 -- text behind text, by the place of the first
@@ -73,14 +71,6 @@ pub wrote-byte : (at : ℕ) (a xs ys : List ℕ) (k v : ℕ) → ys ≡ wrote at
 wrote-byte at a xs ys k v e q h =
     let w : Wrote k (v ∷ []) ys (set ys k v) (k + 1) = stored ys k (v ∷ []) _ _ _ (omega arith) refl refl refl in
     w.buffer ∙ ap₂ (λ n l. wrote n (v ∷ []) l) q e ∙ wrote_on at a (v ∷ []) xs
-
--- a turn of a loop that writes f 0, f 1 and so on
-pub wrote-turn : (f : ℕ → ℕ) (at : ℕ) (xs ys : List ℕ) (i v : ℕ) → ys ≡ wrote at (tab i f) xs → at + i < length ys → v ≡ f i
-    → set ys (at + i) v ≡ wrote at (tab (i + 1) f) xs
-wrote-turn f at xs ys i v e h q =
-    ap (set ys (at + i)) q
-    ∙ wrote-byte at (tab i f) xs ys (at + i) (f i) e (let l = length-tab i f in omega arith) h
-    ∙ ap (λ t. wrote at t xs) (sym (tab-more i f))
 
 pub same-wrote : (at : ℕ) (a b xs ys : List ℕ) (p : ℕ) → a ≡ b → Wrote at a xs ys p → Wrote at b xs ys p
 same-wrote at a b xs ys p e w = rw e at w

@@ -1,9 +1,9 @@
 use mathlib.Core.Path.{◌∙◌}
 use lib.ListN.{get_or}
 use Rattle.std.proofs.Common.{rules}
+use Rattle.limits.proofs.Laws.Lists.{all_read}
 use Rattle.limits.proofs.Laws.Made.{made}
 use Rattle.clinks.specs.Links.{is_on}
-use Rattle.clinks.proofs.Laws.Links.{all_read}
 use Rattle.clinks.proofs.marks_of.Goals as goal
 
 pub returns : goal.returns

@@ -4,6 +4,7 @@ use mathlib.Core.Path.{◌≡◌, refl, sym, ◌∙◌}
 use mathlib.Core.Bool.{Bool, true, false, ◌&&◌, ◌||◌, and_assoc}
 use lib.Dec.{leb}
 use borrow.Author.Tests.{leb-true, leb-false}
+use Rattle.std.specs.Int.{from_bool}
 use Rattle.limits.specs.Questions.{pick}
 
 pub pick_yes : {A : Type 0} (b : Bool) (x y z : A) → b ≡ true → x ≡ z → pick b x y ≡ z
@@ -18,6 +19,12 @@ pub pick-cases : {A : Type 0} (P : A → Type 0) (b : Bool) (x y : A) → (b ≡
 unfolding pick
 pick-cases P true x y f g = f refl
 pick-cases P false x y f g = g refl
+
+-- a truth value as a number
+pub as-number : (b : Bool) → from_bool b ≡ pick b 1 0
+unfolding pick
+as-number true = refl
+as-number false = refl
 
 -- by cases on a computed truth value
 pub test : {X : Type 0} (b : Bool) → (b ≡ true → X) → (b ≡ false → X) → X

@@ -155,11 +155,9 @@ module _ {A B C : Type 0} (p : A → Bool) (q : B → Bool) (r : C → Bool) (f 
 pub tab-self : {A : Type 0} (xs : List A) (n : ℕ) (d : A) → length xs ≡ n → tab n (λ i. get_or xs i d) ≡ xs
 tab-self xs n d l = sym (is-tab xs n (λ i. get_or xs i d) d l (λ i h. refl))
 
--- a part of a list by its elements
-pub part-tab : {A : Type 0} (xs : List A) (a n : ℕ) (d : A) → a + n ≤ length xs → take n (drop a xs) ≡ tab n (λ i. get_or xs (a + i) d)
-part-tab xs a n d h =
-    is-tab (take n (drop a xs)) n (λ i. get_or xs (a + i) d) d (length-take n (drop a xs) ∙ (let l = length-drop a xs in omega arith))
-    (λ i k. get_or-take n (drop a xs) i d k ∙ get_or-drop a xs i d)
+-- a list read by g, element by element
+pub all_read : {A B : Type 0} (g : A → B) (d : A) (xs : List A) (n : ℕ) → length xs ≡ n → tab n (λ k. g (get_or xs k d)) ≡ map g xs
+all_read g d xs n l = sym (map-tab g n (λ k. get_or xs k d)) ∙ ap (map g) (tab-self xs n d l)
 
 module _ {A : Type 0} (p : A → Bool) where
   leading-is-list : (xs : List A) (k : ℕ) (d : A) → k ≤ length xs → ((i : ℕ) → i < k → p (get_or xs i d) ≡ true) → (k < length xs → p (get_or xs k d) ≡ false)

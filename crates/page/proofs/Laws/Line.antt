@@ -1,16 +1,16 @@
 -- Laws on one line of a page.
-use Prim.Native.Nat.{ℕ, ◌+◌, ◌-◌, ◌/◌, ◌%◌, ◌≤◌, ◌<◌}
+use Prim.Native.Nat.{ℕ, ◌+◌, ◌/◌, ◌%◌, ◌≤◌, ◌<◌}
 use mathlib.Core.Path.{◌≡◌, refl, sym, ◌∙◌, ap, ap₂}
 use mathlib.Core.List.{List, ◌++◌, map, append_assoc}
 use native.Mathlib.Omega.{arith}
-use lib.ListN.{length, set, get_or, take, drop, length-map}
+use lib.ListN.{length, get_or, set, take, drop, length-map}
 use lib.Seq.{take_all}
 use borrow.Rule.Slice.PartMut.{put_mid}
 use Rattle.std.proofs.lemmas.Slice.{put_mid-paste}
 use borrow.Author.Tests.{lt-ltb, le-ltb}
 use Rattle.limits.specs.Lists.{tab}
 use Rattle.limits.proofs.Laws.Choice.{pick_yes, pick_no}
-use Rattle.limits.proofs.Laws.Lists.{map-tab, tab-self}
+use Rattle.limits.proofs.Laws.Lists.{all_read}
 use Rattle.buffers.specs.Ascii.{space}
 use Rattle.buffers.specs.Buffers.{wrote}
 use Rattle.buffers.proofs.Laws.Buffers.{wrote_on, wrote-byte}
@@ -32,13 +32,10 @@ part_wrote at n xs ys text e q =
     ∙ append_assoc (take at xs) (take n text) (drop (at + n) xs)
     ∙ ap₂ (λ t k. take at xs ++ (t ++ drop (at + k) xs)) (take_all n text (omega arith)) q
 
--- the cells of a row, by index
-pub row_wrote : (cells xs ys : List ℕ) (at from i : ℕ) → ys ≡ wrote at (tab i (λ k. printed (get_or (take (from + 16 - from) (drop from cells)) k 0))) xs
-    → i ≡ length (take (from + 16 - from) (drop from cells)) → from + 16 ≤ length cells → ys ≡ wrote at (map printed (take 16 (drop from cells))) xs
-row_wrote cells xs ys at from i e q h =
-    e
-    ∙ ap (λ t. wrote at t xs) (sym (map-tab printed i (λ k. get_or (take (from + 16 - from) (drop from cells)) k 0)) ∙ ap (map printed) (tab-self _ i 0 (sym q)))
-    ∙ ap (λ k. wrote at (map printed (take k (drop from cells))) xs) {x = from + 16 - from} {y = 16} (omega arith)
+-- the characters of a row's cells
+pub row_wrote : (at n : ℕ) (xs ys row : List ℕ) → length row ≡ 16 → ys ≡ tab 16 (λ k. printed (get_or row k 0)) → n ≡ 16
+    → put_mid at n xs ys ≡ wrote at (map printed row) xs
+row_wrote at n xs ys row l e q = part_wrote at n xs ys (map printed row) (e ∙ all_read printed 0 row 16 l) (let m = length-map row printed in omega arith)
 
 pub line_wrote : (xs ys zs row : List ℕ) (at n : ℕ) → length row ≡ 16 → ys ≡ wrote at (number_text n ++ space) xs → zs ≡ wrote (at + 6) (map printed row) ys
     → at + 22 < length zs → set zs (at + 22) 10 ≡ wrote at (line_text n row) xs

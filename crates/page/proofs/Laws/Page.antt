@@ -79,10 +79,11 @@ module _ (cells : List ℕ) (first : ℕ) where
       append-joined m = sym (joined-append (tab m (λ i. line_text (first + n + i) (row_at cells (first + n + i)))) _ ∙ ap (lines_from cells (first + n) m ++◌) (append-nil _))
 
   -- a turn of the loop
-  pub lines-turn : (xs ys zs : List ℕ) (i at : ℕ) → ys ≡ wrote 0 (lines_from cells first i) xs → at ≡ 23 * i → 16 * (first + i) ≤ length cells
-      → zs ≡ wrote at (line_text (first + i) (row_at cells (first + i))) ys → zs ≡ wrote 0 (lines_from cells first (i + 1)) xs
-  lines-turn xs ys zs i at e q h w =
+  pub lines-turn : (xs ys zs row : List ℕ) (i at : ℕ) → ys ≡ wrote 0 (lines_from cells first i) xs → at ≡ 23 * i → 16 * (first + i) ≤ length cells
+      → row ≡ row_at cells (first + i) → zs ≡ wrote at (line_text (first + i) row) ys → zs ≡ wrote 0 (lines_from cells first (i + 1)) xs
+  lines-turn xs ys zs row i at e q h r w =
       w
+      ∙ ap (λ row. wrote at (line_text (first + i) row) ys) r
       ∙ ap₂ (λ n l. wrote n (line_text (first + i) (row_at cells (first + i))) l) {x = at} {y = 0 + length (lines_from cells first i)} (let l = length-lines i h in omega arith) e
       ∙ wrote_on 0 (lines_from cells first i) _ xs
       ∙ ap (λ t. wrote 0 t xs) (sym (more-lines i))

@@ -75,6 +75,9 @@ pub legal-part : (cells : List ℕ) (a b : ℕ)
 legal-part cells a b =
     ap (λ k. all legal_cell (take k (drop (16 * a) cells))) {x = 16 * b - 16 * a} {y = 16 * (b - a)} (omega arith) ∙ legal-rows cells 16 a (b - a)
 
--- one row
-pub legal-one : (cells : List ℕ) (at : ℕ) → all legal_cell (take (16 * at + 16 - 16 * at) (drop (16 * at) cells)) ≡ legal_row (row_at cells at)
-legal-one cells at = ap (λ n. all legal_cell (take n (drop (16 * at) cells))) {x = 16 * at + 16 - 16 * at} {y = 16} (omega arith)
+-- one row, lent as a part
+pub row-lent : (cells : List ℕ) (i : ℕ) → take (16 * i + 16 - 16 * i) (drop (16 * i) cells) ≡ row_at cells i
+row-lent cells i = ap (λ n. take n (drop (16 * i) cells)) {x = 16 * i + 16 - 16 * i} {y = 16} (omega arith)
+
+pub legal-one : (cells : List ℕ) (i : ℕ) → all legal_cell (take (16 * i + 16 - 16 * i) (drop (16 * i) cells)) ≡ legal_row (row_at cells i)
+legal-one cells i = ap legal_row (row-lent cells i)

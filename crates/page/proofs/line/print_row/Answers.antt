@@ -1,15 +1,13 @@
 use native.Mathlib.Omega.{arith}
-use Rattle.limits.specs.Lists.{tab}
-use Rattle.buffers.proofs.Laws.Buffers.{none-wrote, wrote-turn}
+use mathlib.Core.Path.{◌∙◌}
+use lib.ListN.{get_or}
+use Rattle.std.proofs.Common.{rules}
+use Rattle.limits.proofs.Laws.Made.{made}
+use Rattle.page.specs.Page.{printed}
 use Rattle.page.proofs.Laws.Line.{row_wrote}
 use Rattle.page.proofs.line.print_row.Goals as goal
 
-pub loop-i-init : goal.loop-i-init
-unfolding tab
-loop-i-init c = (none-wrote _ _).buffer
-
-pub loop-i-preserved : goal.loop-i-preserved
-loop-i-preserved c = wrote-turn _ _ _ _ _ _ c.loop-i.invariant (omega arith) c.printed.ensures
-
 pub returns : goal.returns
-returns c = row_wrote c.args.cells.now _ _ _ c.args.from _ c.loop-i.invariant (omega arith) (omega arith)
+returns c =
+    let text = made _ (λ k. printed (get_or c.args.row.now k 0)) _ (λ k x c' call. search rules) _ 16 c.from_fn-text.ensures.items in
+    row_wrote c.args.at _ _ _ c.args.row.now c.requires.0 (c.copy_from_slice.ensures.after ∙ text) (omega arith)
