@@ -186,7 +186,7 @@ uint8_t matlink_lent_write_frame(const uint16_t *head, const uint16_t *cells, ui
  * Done: `count` gets the count of bytes written, 23 for each row, and the bytes behind them are as they were.
  * Refused: the buffer is as it was, and `count` gets 0, whichever question it was.
  * What a call takes goes with the rows of the page, however long the record is.
- * Stack: 62 bytes. */
+ * Stack: 56 bytes. */
 uint8_t matlink_page(const uint16_t *record, size_t record_count, uint64_t page, uint8_t *buffer, size_t buffer_count,
                      uint64_t *count);
 

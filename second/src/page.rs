@@ -11,9 +11,12 @@ pub const LINE_LENGTH: usize = 23;
 /// The most rows of a record that has pages: 5 columns hold no more numbers.
 pub const MOST_ROWS: usize = 100_000;
 
-/// The shade of a cell, 0 to 9 where the cell is legal. A torn cell has none.
+/// The first cells of shades 1 to 9, so that a shade takes no division.
+pub const FIRST_CELLS: [u16; 9] = [410, 820, 1229, 1639, 2048, 2458, 2868, 3277, 3687];
+
+/// The shade of a cell, 0 to 9: how many of the first cells are at most the cell. A torn cell has none.
 pub fn shade(cell: u16) -> Option<u8> {
-    (cell != TORN_CELL).then(|| (u32::from(cell) * 10 / 4096) as u8)
+    (cell != TORN_CELL).then(|| FIRST_CELLS.iter().map(|first| u8::from(*first <= cell)).sum())
 }
 
 /// What is printed for a legal cell.

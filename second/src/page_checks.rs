@@ -8,12 +8,15 @@ use crate::limits::{number, CELLS, GREATEST_CELL, TORN_CELL};
 use crate::members::named;
 use crate::met::Accepted;
 use crate::page::{page, LINE_LENGTH, PAGE_ROWS};
-use crate::page_lists::{long, places, random_call, random_length, wraps_onto_row, PageCall, LONG_CELLS};
+use crate::page_lists::{every_cell, long, places, random_call, random_length, wraps_onto_row, PageCall, LONG_CELLS, STEPS};
 use crate::random::Random;
 use crate::report::{Outcome, Replay};
 use crate::threads::Amount;
 use std::fmt;
 use std::mem::replace;
+
+/// Bytes of a full page.
+const FULL: usize = PAGE_ROWS * LINE_LENGTH;
 
 /// Bytes behind the lent buffer, which must stay.
 const BEHIND: usize = 2 * LINE_LENGTH;
@@ -115,21 +118,28 @@ impl Compared<'_> {
         long().iter().try_for_each(|call| self.call(&mut cells, call))
     }
 
-    /// Every legal cell at every place of a line, and every other number once on a page of legal cells, the first line of which
-    /// is torn.
-    fn every_cell(&mut self) -> Result<(), String> {
-        let mut all: Vec<u16> = (0..=GREATEST_CELL).chain([TORN_CELL; CELLS]).collect();
-        let length = PAGE_ROWS * LINE_LENGTH;
-        let cells = all.len();
-        for _ in 0..CELLS {
-            for page in 0..cells.div_ceil(PAGE_ROWS * CELLS) as u64 {
-                self.call(&mut all, &PageCall { cells, page, bad: None, length })?;
+    /// Every legal cell at every place of a line, in orders that show a shade which depends on the cell before.
+    fn legal_cells(&mut self) -> Result<(), String> {
+        for step in STEPS {
+            let mut all = every_cell(step);
+            let cells = all.len();
+            for _ in 0..CELLS {
+                for page in 0..cells.div_ceil(PAGE_ROWS * CELLS) as u64 {
+                    self.call(&mut all, &PageCall { cells, page, bad: None, length: FULL })?;
+                }
+                all.rotate_right(1);
             }
-            all.rotate_right(1);
         }
+        Ok(())
+    }
+
+    /// Every other number once on a page of legal cells, the first line of which is torn.
+    fn illegal_cells(&mut self) -> Result<(), String> {
+        let mut all = every_cell(1);
+        let cells = all.len();
         for cell in GREATEST_CELL + 1..TORN_CELL {
             let at = usize::from(cell) % (PAGE_ROWS * CELLS);
-            self.call(&mut all, &PageCall { cells, page: 0, bad: Some((at, cell)), length })?;
+            self.call(&mut all, &PageCall { cells, page: 0, bad: Some((at, cell)), length: FULL })?;
         }
         Ok(())
     }
@@ -163,10 +173,12 @@ pub fn pages(library: &dyn PageLibrary, replay: &Replay, amount: Amount, records
     let failed = |text: String| replay.failed("pages", amount.seed, &text);
     let fresh = || Compared { library, answered: Answered::default() };
     let (mut drawn, mut long, mut cells) = (fresh(), fresh(), fresh());
+    // first, so that the report on a wrong shade is the same for every seed
+    cells.legal_cells().map_err(failed)?;
     drawn.random_pages(&mut random, records).map_err(failed)?;
     drawn.answered.all_there()?;
     long.long_pages(&mut random).map_err(failed)?;
-    cells.every_cell().map_err(failed)?;
+    cells.illegal_cells().map_err(failed)?;
     let (drawn, long, cells) = (drawn.answered, long.answered, cells.answered);
     Ok(format!("{records} random records: {drawn}\n  99,999 to 100,001 rows: {long}\n  every number as a cell: {cells}"))
 }

@@ -1,7 +1,7 @@
 //! Calls for pages: at every edge of the record, the page's number, the page's cells and the buffer.
 
 use crate::draw_cells::{random_illegal, ILLEGAL_EDGES};
-use crate::limits::CELLS;
+use crate::limits::{CELLS, GREATEST_CELL, TORN_CELL};
 use crate::page::{LINE_LENGTH, MOST_ROWS, PAGE_ROWS};
 use crate::random::Random;
 use std::ops::Range;
@@ -95,6 +95,16 @@ fn bad_cells(cells: usize, page: u64) -> Vec<Option<(usize, u16)>> {
 fn lengths(cells: usize, page: u64) -> [usize; 6] {
     let bytes = bytes(cells, page);
     [0, bytes.saturating_sub(1), bytes, bytes + 1, bytes + LINE_LENGTH, PAGE_ROWS * LINE_LENGTH]
+}
+
+/// Steps from a whole cell of a record to the next one: cells that rise, that fall, and that are over three shades apart. Above
+/// 4095 they begin again at 0.
+pub const STEPS: [u16; 3] = [1, GREATEST_CELL, 1367];
+
+/// A line of torn cells, then every whole cell once, in these steps. A step is odd, as an even one leaves cells out.
+pub fn every_cell(step: u16) -> Vec<u16> {
+    let whole = |at: u16| at.wrapping_mul(step) % (GREATEST_CELL + 1);
+    [TORN_CELL; CELLS].into_iter().chain((0..=GREATEST_CELL).map(whole)).collect()
 }
 
 /// Cells of a random record: 0 to 200 rows, now and then 1 to 15 cells more.

@@ -1,3 +1,4 @@
 pub mod Laws
 pub mod Theorems
+pub mod Shades
 pub mod Cases

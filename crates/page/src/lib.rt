@@ -1,8 +1,10 @@
 // A page of a record: up to 60 of its rows as text.
 #![tactic(auto)]
 
-ghost use Rattle.std.specs.Prelude.{◌≡◌, ◌+◌, ◌*◌, ◌≤◌, length};
+ghost use Rattle.std.specs.Prelude.{◌≡◌, true, ◌+◌, ◌*◌, ◌≤◌, length};
 ghost use Rattle.limits.specs.Questions.{Answered};
+ghost use Rattle.limits.specs.Cells.{row_at, legal_row};
+ghost use Rattle.limits.specs.Lists.{tab, all};
 ghost use Rattle.buffers.specs.Buffers.{wrote, writing, WriteCall};
 ghost use Rattle.page.specs.Page.{rows_in, rows_on, lines_from, page_bytes, page_into, record_fits, page_questions};
 
@@ -52,7 +54,8 @@ fn page_answer(record: &[u16], p: usize, room: usize) -> Result<usize, Refusal>
 
 // The lines of n rows from row `first` on.
 fn lines(out: &mut [u8], record: &[u16], first: usize, n: usize)
-    requires { (23 * n ≤ length out.old) × (16 * (first + n) ≤ length «record».now) }
+    requires { (23 * n ≤ length out.old) × (16 * (first + n) ≤ length «record».now)
+        × (all legal_row (tab n (λ i. row_at «record».now (first + i))) ≡ true) }
     ensures { out.new ≡ wrote 0 (lines_from «record».now first n) out.old }
 {
     for i in 0..n {

@@ -1,8 +1,8 @@
 // Inner: called by page. One line, written at a place of a buffer that has room.
 // Stays (fixed memory): writers at a place, as those of `buffers`, and digits one by one, since `write!` gives an error that no
 // contract rules out.
-ghost use Rattle.std.specs.Prelude.{◌≡◌, ◌++◌, map, ◌+◌, ◌≤◌, ◌<◌, length};
-ghost use Rattle.limits.specs.Cells.{torn};
+ghost use Rattle.std.specs.Prelude.{◌≡◌, true, ◌++◌, map, ◌+◌, ◌≤◌, length};
+ghost use Rattle.limits.specs.Cells.{legal_cell, legal_row};
 ghost use Rattle.buffers.specs.Ascii.{space};
 ghost use Rattle.buffers.specs.Buffers.{wrote};
 ghost use Rattle.page.specs.Page.{shade, printed, column, number_text, line_text};
@@ -10,15 +10,25 @@ ghost use Rattle.page.specs.Page.{shade, printed, column, number_text, line_text
 use limits::cells::TORN;
 use std::array;
 
+// The first cells of shades 1 to 9.
+const FIRST_CELLS: [u16; 9] = [410, 820, 1229, 1639, 2048, 2458, 2868, 3277, 3687];
+
+// How many of these are at most the cell.
 fn shade(cell: u16) -> u8
-    requires { cell < torn }
-    ensures { (result ≡ shade cell) × (result ≤ 159) }
+    requires { cell ≤ 4095 }
+    ensures { (result ≡ shade cell) × (result ≤ 9) }
 {
-    // Stays (no plainer): each `as` here narrows a number whose bound is proved; `try_from` would give an error that cannot be.
-    (u32::from(cell) * 10 / 4096) as u8
+    // Stays (speed): `filter` and `count` are not compiled to vector code.
+    let mut shade = 0;
+    for first in FIRST_CELLS {
+        shade += u8::from(first <= cell);
+    }
+    shade
 }
 
+// What a line has for the cell.
 fn printed(cell: u16) -> u8
+    requires { legal_cell cell ≡ true }
     ensures { result ≡ printed cell }
 {
     if cell == TORN {
@@ -35,6 +45,7 @@ fn column(n: usize, unit: usize) -> u8
     if n < unit {
         b' '
     } else {
+        // Stays (no plainer): `as` narrows a digit, here and in `number`; `try_from` would give an error that cannot be.
         b'0' + (n / unit % 10) as u8
     }
 }
@@ -57,7 +68,7 @@ fn number(out: &mut [u8], at: usize, n: usize)
 
 // A character for each of the row's cells.
 fn print_row(out: &mut [u8], at: usize, row: &[u16])
-    requires { (length row.now ≡ 16) × (at + 16 ≤ length out.old) }
+    requires { (length row.now ≡ 16) × (at + 16 ≤ length out.old) × (legal_row row.now ≡ true) }
     ensures { out.new ≡ wrote at (map printed row.now) out.old }
 {
     let text: [u8; 16] = array::from_fn(|i| printed(row[i]));
@@ -66,7 +77,7 @@ fn print_row(out: &mut [u8], at: usize, row: &[u16])
 
 // The line of row n.
 pub fn line(out: &mut [u8], at: usize, n: usize, row: &[u16])
-    requires { (length row.now ≡ 16) × (at + 23 ≤ length out.old) }
+    requires { (length row.now ≡ 16) × (at + 23 ≤ length out.old) × (legal_row row.now ≡ true) }
     ensures { out.new ≡ wrote at (line_text n row.now) out.old }
 {
     number(out, at, n);

@@ -2,13 +2,15 @@
 
 use super::supply;
 use second::limits::{number, Refusal, TORN_CELL};
-use second::page::{page, shade, LINE_LENGTH, MOST_ROWS, PAGE_ROWS};
+use second::page::{page, shade, FIRST_CELLS, LINE_LENGTH, MOST_ROWS, PAGE_ROWS};
 
 /// What stands in a buffer before a call: no page has such a byte.
 const BLANK: u8 = 0xEE;
 
-/// The first cells of shades 0 to 9.
-const FIRST: [u16; 10] = [0, 410, 820, 1229, 1639, 2048, 2458, 2868, 3277, 3687];
+/// The rule for the shade of a cell that is not torn: times 10, divided by 4096, rounded down.
+fn divided(cell: u16) -> u8 {
+    (u32::from(cell) * 10 / 4096) as u8
+}
 
 /// The answer with a buffer of this length, and the buffer.
 fn shown(record: &[u16], p: u64, length: usize) -> (Result<usize, Refusal>, Vec<u8>) {
@@ -35,11 +37,17 @@ fn refused(record: &[u16], p: u64, length: usize, expected: u8) {
 
 #[test]
 fn shades() {
-    for cell in 0..=4095u16 {
-        let expected = FIRST.iter().rposition(|first| *first <= cell).expect("a shade");
-        assert_eq!(shade(cell).map(usize::from), Some(expected), "cell {cell}");
+    for cell in 0..=4095 {
+        assert_eq!(shade(cell), Some(divided(cell)), "cell {cell}");
     }
     assert_eq!(shade(TORN_CELL), None);
+}
+
+/// By the rule each has its shade, and the cell before it has the shade before.
+#[test]
+fn first_cells() {
+    assert_eq!(FIRST_CELLS.map(divided), [1, 2, 3, 4, 5, 6, 7, 8, 9]);
+    assert_eq!(FIRST_CELLS.map(|first| divided(first - 1)), [0, 1, 2, 3, 4, 5, 6, 7, 8]);
 }
 
 /// Both ends of every shade.
@@ -78,7 +86,7 @@ fn rows_of_a_page() {
     assert_eq!([&first, &second, &last].map(|page| page.len()), [1380, 1380, 23]);
     let whole = first + &second + &last;
     for (at, line) in whole.lines().enumerate() {
-        let shades: String = record[16 * at..][..16].iter().map(|cell| (cell * 5 / 2048).to_string()).collect();
+        let shades: String = record[16 * at..][..16].iter().map(|cell| divided(*cell).to_string()).collect();
         assert_eq!(line, format!("{}{at} {shades}", " ".repeat(5 - at.to_string().len())));
     }
     assert_eq!(text(&supply(1), 0).len(), 23);

@@ -5,9 +5,9 @@
 use second::library::PageLibrary;
 use second::limits::{legal, legal_cell, number, Refusal, CELLS, TORN_CELL};
 use second::met::torn;
-use second::page::{page, LINE_LENGTH, MOST_ROWS, PAGE_ROWS};
+use second::page::{page, FIRST_CELLS, LINE_LENGTH, MOST_ROWS, PAGE_ROWS};
 use second::page_checks::{pages, Answered};
-use second::page_lists::{places, PageCall};
+use second::page_lists::{every_cell, places, PageCall, STEPS};
 use second::report::Replay;
 use second::threads::Amount;
 
@@ -25,14 +25,39 @@ enum Wrong {
     Zeros,
     /// The shade is rounded to the nearest.
     Rounded,
+    /// The first cell of this shade is one too low.
+    Low(usize),
+    /// It is one too high.
+    High(usize),
+    /// The first cell of shade 5 is one too high at this place of a line alone. Every order has 2048 at the same place, so only the
+    /// rotation brings it to this one.
+    HighAt(usize),
+    /// The table leaves the first cell of this shade out.
+    LeftOut(usize),
+    /// It stands behind the next one, and the count ends at the first that is above the cell.
+    Swapped(usize),
+    /// Only first cells below the cell count.
+    Below,
+    /// The table starts with 0, the first cell of shade 0.
+    WithZero,
+    /// The table ends with 4095, the greatest whole cell.
+    WithGreatest,
+    /// First cells are rounded down.
+    Down,
+    /// They are rounded to the nearest.
+    Nearest,
+    /// They are tenths of 4095.
+    Of4095,
+    /// Every shade has 410 cells.
+    Equal,
+    /// Within a line a shade is at most so much below the one before.
+    Falls(u8),
     /// A torn cell is shown as the darkest shade.
     Shaded,
     /// Question 12 refuses a torn cell.
     Torn,
-    /// Question 12 lets the number below a torn cell pass.
-    BelowTorn,
-    /// Question 12 lets the number above the greatest whole cell pass.
-    AboveWhole,
+    /// Question 12 lets this number pass.
+    Passes(u16),
     /// The last line has no line end.
     LastEnd,
     /// Question 12 is asked of the whole record.
@@ -79,7 +104,7 @@ enum Wrong {
     Behind,
 }
 
-const ALL: [Wrong; 31] = [
+const ALL: [Wrong; 32] = [
     Wrong::Rows,
     Wrong::FromOne,
     Wrong::Left,
@@ -87,8 +112,9 @@ const ALL: [Wrong; 31] = [
     Wrong::Rounded,
     Wrong::Shaded,
     Wrong::Torn,
-    Wrong::BelowTorn,
-    Wrong::AboveWhole,
+    Wrong::Passes(TORN_CELL - 1),
+    Wrong::Passes(4096),
+    Wrong::Passes(30_000),
     Wrong::LastEnd,
     Wrong::WholeRecord,
     Wrong::RowBefore,
@@ -112,6 +138,15 @@ const ALL: [Wrong; 31] = [
     Wrong::Partly,
     Wrong::Behind,
 ];
+
+/// What can be wrong with the table, and with the count in it.
+fn shades() -> Vec<Wrong> {
+    let each = (1..=9).flat_map(|shade| [Wrong::Low(shade), Wrong::High(shade), Wrong::LeftOut(shade)]);
+    let tables = [Wrong::WithZero, Wrong::WithGreatest, Wrong::Down, Wrong::Nearest, Wrong::Of4095, Wrong::Equal];
+    let counts = [Wrong::Below, Wrong::Falls(0), Wrong::Falls(1)];
+    let others = (1..9).map(Wrong::Swapped).chain((0..CELLS).map(Wrong::HighAt));
+    each.chain(others).chain(tables).chain(counts).collect()
+}
 
 /// Bytes of a full page.
 const FULL: usize = PAGE_ROWS * LINE_LENGTH;
@@ -141,8 +176,7 @@ impl StandIn {
         let legal_but = |other: u16| cells.iter().all(|cell| legal_cell(*cell) || *cell == other);
         match (self.0, right) {
             (Wrong::Torn, 0 | 32) if torn(cells) => 12,
-            (Wrong::BelowTorn, 12) if legal_but(TORN_CELL - 1) => 0,
-            (Wrong::AboveWhole, 12) if legal_but(4096) => 0,
+            (Wrong::Passes(other), 12) if legal_but(other) => 0,
             (Wrong::WholeRecord, 0 | 32) if !rows.iter().all(legal) => 12,
             (Wrong::RowBefore, 0 | 32) if start > 0 && !legal(&rows[start - 1]) => 12,
             (Wrong::RowBehind, 0 | 32) if rows.get(start + shown).is_some_and(|row| !legal(row)) => 12,
@@ -157,23 +191,73 @@ impl StandIn {
         }
     }
 
-    /// Changes what a done page wrote, and gives the count.
-    fn done(&self, record: &[u16], p: u64, buffer: &mut [u8], length: usize) -> usize {
-        let first = (p as usize).wrapping_mul(PAGE_ROWS);
-        for (row, line) in (first..).zip(buffer[..length].chunks_exact_mut(LINE_LENGTH)) {
+    /// The table to count in: for a mistake in it or in the count, and for none, so that the count here is compared, too.
+    fn table(&self) -> Option<Vec<u16>> {
+        let mut table = FIRST_CELLS.to_vec();
+        let firsts = |first: fn(u16) -> u16| (1..=9).map(first).collect();
+        match self.0 {
+            Wrong::Nothing | Wrong::Below => {}
+            Wrong::Low(shade) => table[shade - 1] -= 1,
+            Wrong::High(shade) => table[shade - 1] += 1,
+            Wrong::HighAt(_) => table[4] += 1,
+            Wrong::LeftOut(shade) => table = [&table[..shade - 1], &table[shade..]].concat(),
+            Wrong::Swapped(shade) => table.swap(shade - 1, shade),
+            Wrong::WithZero => table.insert(0, 0),
+            Wrong::WithGreatest => table.push(4095),
+            Wrong::Down => table = firsts(|shade| shade * 4096 / 10),
+            Wrong::Nearest => table = firsts(|shade| (shade * 4096 + 5) / 10),
+            Wrong::Of4095 => table = firsts(|shade| (shade * 4095).div_ceil(10)),
+            Wrong::Equal => table = firsts(|shade| shade * 410),
+            _ => return None,
+        }
+        Some(table)
+    }
+
+    /// Shades by this table for the marks of a line.
+    fn count(&self, table: &[u16], cells: &[u16], marks: &mut [u8]) {
+        for (at, (mark, cell)) in marks.iter_mut().zip(cells).enumerate() {
+            let elsewhere = matches!(self.0, Wrong::HighAt(place) if place != at);
+            if *cell != TORN_CELL && !elsewhere {
+                let counts = |first: &&u16| **first < *cell || **first == *cell && !matches!(self.0, Wrong::Below);
+                *mark = b'0' + table.iter().take_while(counts).count() as u8;
+            }
+        }
+    }
+
+    /// Each shade of a line's marks is raised where it would be more than so much below the one before.
+    fn falls(marks: &mut [u8], most: u8) {
+        let mut before = b'0';
+        for mark in marks.iter_mut().filter(|mark| **mark != b'-') {
+            *mark = (before - most).max(*mark);
+            before = *mark;
+        }
+    }
+
+    /// Changes the lines of a done page.
+    fn lines(&self, record: &[u16], p: u64, lines: &mut [u8]) {
+        let (first, table) = ((p as usize).wrapping_mul(PAGE_ROWS), self.table());
+        let cells = |row: usize| &record[row * CELLS..][..CELLS];
+        for (row, line) in (first..).zip(lines.chunks_exact_mut(LINE_LENGTH)) {
+            let (number, marks) = line[..LINE_LENGTH - 1].split_at_mut(6);
             match self.0 {
-                Wrong::FromOne => line[..5].copy_from_slice(&format!("{:>5}", row + 1).as_bytes()[..5]),
-                Wrong::Left => line[..5].copy_from_slice(format!("{row:<5}").as_bytes()),
-                Wrong::Zeros => line[..5].copy_from_slice(format!("{row:05}").as_bytes()),
+                Wrong::FromOne => number[..5].copy_from_slice(&format!("{:>5}", row + 1).as_bytes()[..5]),
+                Wrong::Left => number[..5].copy_from_slice(format!("{row:<5}").as_bytes()),
+                Wrong::Zeros => number[..5].copy_from_slice(format!("{row:05}").as_bytes()),
                 Wrong::Rounded => {
-                    for (digit, cell) in line[6..].iter_mut().zip(&record[row * CELLS..][..CELLS]) {
+                    for (digit, cell) in marks.iter_mut().zip(cells(row)) {
                         *digit = b'0' + ((u32::from(*cell) * 10 + 2048) / 4096) as u8;
                     }
                 }
-                Wrong::Shaded => line[6..].iter_mut().filter(|mark| **mark == b'-').for_each(|mark| *mark = b'9'),
-                _ => {}
+                Wrong::Shaded => marks.iter_mut().filter(|mark| **mark == b'-').for_each(|mark| *mark = b'9'),
+                Wrong::Falls(most) => StandIn::falls(marks, most),
+                _ => table.iter().for_each(|table| self.count(table, cells(row), marks)),
             }
         }
+    }
+
+    /// Changes what a done page wrote, and gives the count.
+    fn done(&self, record: &[u16], p: u64, buffer: &mut [u8], length: usize) -> usize {
+        self.lines(record, p, &mut buffer[..length]);
         match self.0 {
             Wrong::Rows => {
                 let mut next = [0; FULL];
@@ -243,14 +327,53 @@ fn nothing_differs_from_the_right_page() {
     assert!(text.starts_with("1000 random records: 10000 calls, "), "{text}");
 }
 
-/// Each with a report that is short and can be replayed.
+/// The report on a mistake, which is short and can be replayed.
+fn report(wrong: Wrong) -> String {
+    let Err(report) = compared(wrong) else { panic!("{wrong:?} is not found") };
+    assert!(report.starts_with("# pages, seed 0: PageCall {"), "{wrong:?}: {report}");
+    assert!(report.contains("differential trial --part pages --seed 0 --events 1"), "{wrong:?}: {report}");
+    assert!(report.lines().count() < 20 && report.len() < 2000, "{wrong:?}: {report}");
+    report
+}
+
 #[test]
 fn wrong_pages_are_found() {
     for wrong in ALL {
-        let Err(report) = compared(wrong) else { panic!("{wrong:?} is not found") };
-        assert!(report.starts_with("# pages, seed 0: PageCall {"), "{wrong:?}: {report}");
-        assert!(report.contains("differential trial --part pages --seed 0 --events 1"), "{wrong:?}: {report}");
-        assert!(report.lines().count() < 20 && report.len() < 2000, "{wrong:?}: {report}");
+        report(wrong);
+    }
+}
+
+/// By the records with every legal cell, and so not by chance.
+#[test]
+fn wrong_shades_are_found() {
+    for wrong in shades() {
+        let report = report(wrong);
+        assert!(report.contains("PageCall { cells: 4112, "), "{wrong:?}: {report}");
+    }
+}
+
+/// A first cell that is one too low or too high makes one mark differ, by one.
+#[test]
+fn a_first_cell_that_is_one_off() {
+    for shade in 1..=9 {
+        let [before, own] = [shade - 1, shade].map(|shade| usize::from(b'0') + shade);
+        for (wrong, library, expected) in [(Wrong::Low(shade), own, before), (Wrong::High(shade), before, own)] {
+            let report = report(wrong);
+            assert!(report.contains(&format!(": library {library}, expected {expected}\n")), "{wrong:?}: {report}");
+            assert_eq!(report.lines().count(), 2, "{wrong:?}: {report}");
+        }
+    }
+}
+
+/// Every legal cell once, but for the torn ones, which fill a line.
+#[test]
+fn records_with_every_cell() {
+    for step in STEPS {
+        let mut cells = every_cell(step);
+        assert_eq!((cells.len(), &cells[..CELLS]), (4096 + CELLS, &[TORN_CELL; CELLS][..]));
+        cells.sort_unstable();
+        cells.dedup();
+        assert!(cells.into_iter().eq((0..=u16::MAX).filter(|cell| legal_cell(*cell))), "step {step}");
     }
 }
 

@@ -31,6 +31,10 @@ legal-small c legal =
     (λ low. omega arith)
     (λ high. let t = eqb-true c torn (sym (torn-alone c high) ∙ legal) in omega arith)
 
+-- a legal cell that is not torn is at most 4095
+pub whole-small : (c : ℕ) → legal_cell c ≡ true → (c ≡ torn → ⊥) → c ≤ 4095
+whole-small c legal whole = split c 4095 (λ low. low) (λ high. absurd (whole (eqb-true c torn (sym (torn-alone c high) ∙ legal))))
+
 pub level-is : (c e : ℕ) → c < 65536 → e ≡ (c + 1) % 65536 → leb e LEGAL ≡ legal_cell c
 level-is c e h is =
     split c 4095

@@ -9,7 +9,7 @@ use lib.Dec.{eqb, ltb}
 use borrow.Author.Tests.{eqb-true, eqb-false, lt-ltb, le-ltb}
 use lib.ListN.{length, take, drop, get_or, set, replicate, length-append, length-take, length-drop, length-set, length-replicate, take-append-drop, get_or-append, get_or-replicate}
 use lib.Seq.{get_or_at, get_or-append-add, ext_get_or, get_or-drop, get_or-take, get_or-set_same, get_or-set_other}
-use Rattle.limits.specs.Lists.{tab, all, leading, joined}
+use Rattle.limits.specs.Lists.{tab, all, leading, how_many, joined}
 use Rattle.limits.specs.Questions.{pick}
 use Rattle.limits.proofs.Laws.Choice.{and_left, and_right, and-swap, both, split, test, pick_yes, pick_no, pick-cases}
 
@@ -112,6 +112,33 @@ module _ {A : Type 0} where
       where
         joined : (all p (tab n f) && (p (f n) && true)) ≡ true
         joined = sym (all_append (tab n f) (f n ∷ [])) ∙ e
+
+-- what passes counts 1
+one-more : (b : Bool) (n : ℕ) → pick b (n + 1) n ≡ pick b 1 0 + n
+one-more b n =
+    test b
+    (λ e. pick_yes b (n + 1) n (1 + n) e (omega arith) ∙ ap (◌+ n) (sym (pick_yes b 1 0 1 e refl)))
+    (λ e. pick_no b (n + 1) n (0 + n) e (omega arith) ∙ ap (◌+ n) (sym (pick_no b 1 0 0 e refl)))
+
+module _ {A : Type 0} (p : A → Bool) where
+  how_many-behind : (xs : List A) (x : A) → how_many p (xs ++ (x ∷ [])) ≡ how_many p xs + pick (p x) 1 0
+  unfolding how_many
+  how_many-behind [] x = one-more (p x) 0 ∙ omega arith
+  how_many-behind (y ∷ ys) x =
+      one-more (p y) (how_many p (ys ++ (x ∷ [])))
+      ∙ ap (pick (p y) 1 0 +◌) (how_many-behind ys x)
+      ∙ (let e = one-more (p y) (how_many p ys) in omega arith)
+
+  -- a turn of a loop that counts
+  pub how_many-next : (n : ℕ) (f : ℕ → A) → how_many p (tab (n + 1) f) ≡ how_many p (tab n f) + pick (p (f n)) 1 0
+  how_many-next n f = ap (how_many p) (tab-more n f) ∙ how_many-behind (tab n f) (f n)
+
+  pub how_many-most : (xs : List A) → how_many p xs ≤ length xs
+  unfolding how_many
+  how_many-most [] = omega arith
+  how_many-most (x ∷ xs) =
+      let h = how_many-most xs in
+      pick-cases (λ n. n ≤ length (x ∷ xs)) (p x) (how_many p xs + 1) (how_many p xs) (λ e. omega arith) (λ e. omega arith)
 
 pub all_map : {A B : Type 0} (p : B → Bool) (f : A → B) (xs : List A) → all p (map f xs) ≡ all (λ x. p (f x)) xs
 unfolding all

@@ -1,6 +1,7 @@
 -- Laws on one line of a page.
 use Prim.Native.Nat.{ℕ, ◌+◌, ◌/◌, ◌%◌, ◌≤◌, ◌<◌}
 use mathlib.Core.Path.{◌≡◌, refl, sym, ◌∙◌, ap, ap₂}
+use mathlib.Core.Bool.{true}
 use mathlib.Core.List.{List, ◌++◌, map, append_assoc}
 use native.Mathlib.Omega.{arith}
 use lib.ListN.{length, get_or, set, take, drop, length-map}
@@ -8,9 +9,10 @@ use lib.Seq.{take_all}
 use borrow.Rule.Slice.PartMut.{put_mid}
 use Rattle.std.proofs.lemmas.Slice.{put_mid-paste}
 use borrow.Author.Tests.{lt-ltb, le-ltb}
+use Rattle.limits.specs.Cells.{legal_cell, legal_row}
 use Rattle.limits.specs.Lists.{tab}
 use Rattle.limits.proofs.Laws.Choice.{pick_yes, pick_no}
-use Rattle.limits.proofs.Laws.Lists.{all_read}
+use Rattle.limits.proofs.Laws.Lists.{all-at, all_read}
 use Rattle.buffers.specs.Ascii.{space}
 use Rattle.buffers.specs.Buffers.{wrote}
 use Rattle.buffers.proofs.Laws.Buffers.{wrote_on, wrote-byte}
@@ -31,6 +33,9 @@ part_wrote at n xs ys text e q =
     put_mid-paste at n xs ys text n e refl q
     ∙ append_assoc (take at xs) (take n text) (drop (at + n) xs)
     ∙ ap₂ (λ t k. take at xs ++ (t ++ drop (at + k) xs)) (take_all n text (omega arith)) q
+
+pub cell-legal : (row : List ℕ) → length row ≡ 16 → legal_row row ≡ true → (i : ℕ) → i < 16 → legal_cell (get_or row i 0) ≡ true
+cell-legal row l e i h = all-at legal_cell row i 0 (omega arith) e
 
 -- the characters of a row's cells
 pub row_wrote : (at n : ℕ) (xs ys row : List ℕ) → length row ≡ 16 → ys ≡ tab 16 (λ k. printed (get_or row k 0)) → n ≡ 16

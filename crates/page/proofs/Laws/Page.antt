@@ -11,9 +11,9 @@ use Rattle.limits.specs.Cells.{row_at, legal_cell, legal_row}
 use Rattle.limits.specs.Lists.{tab, all, joined}
 use Rattle.limits.specs.Questions.{ask, first_no}
 use Rattle.limits.proofs.Laws.Choice.{pick_yes, pick_no, split, and_right}
-use Rattle.limits.proofs.Laws.Lists.{tab-more, joined-append}
+use Rattle.limits.proofs.Laws.Lists.{all-tab-at, tab-more, joined-append}
 use Rattle.limits.proofs.Laws.Questions.{each}
-use Rattle.rows.proofs.Laws.Cells.{length_part, legal-rows}
+use Rattle.rows.proofs.Laws.Cells.{length_part, row-lent, legal-rows}
 use Rattle.buffers.specs.Buffers.{wrote}
 use Rattle.buffers.proofs.Laws.Buffers.{wrote_on, wrote-front}
 use Rattle.page.specs.Page.{printed, line_text, rows_in, rows_on, lines_from, page_text, page_bytes, page_into, record_fits, legal_page, page_questions}
@@ -123,13 +123,27 @@ module _ (cells : List ℕ) (p room : ℕ) where
 pub record Passed (cells : List ℕ) (p room : ℕ) : Type 0 where
   pub rows : rows_in cells ≤ 100000
   pub some : 1 ≤ rows_on (rows_in cells) p
+  pub legal : legal_page cells p ≡ true
   pub fits : 23 * rows_on (rows_in cells) p ≤ room
 
 pub passed : (cells : List ℕ) (p room : ℕ) → first_no (page_questions cells p room) ≡ 0 → Passed cells p room
 unfolding all
 passed cells p room e =
     let q = each (page_questions cells p room) refl e in
-    record { rows = fits-rows cells q.0; some = leb-true 1 _ q.1.0; fits = leb-true _ room q.1.1.1.0 }
+    record { rows = fits-rows cells q.0; some = leb-true 1 _ q.1.0; legal = q.1.1.0; fits = leb-true _ room q.1.1.1.0 }
+
+-- its rows are legal, in the words that the lines require
+pub page-rows-legal : (cells : List ℕ) (p n : ℕ) → legal_page cells p ≡ true → n ≡ rows_on (rows_in cells) p → all legal_row (tab n (λ i. row_at cells (60 * p + i))) ≡ true
+unfolding legal_page
+page-rows-legal cells p n e on = ap (λ n. all legal_row (tab n (λ i. row_at cells (60 * p + i)))) on ∙ e
+
+-- row i of these, lent as a part
+pub row-ready : (cells : List ℕ) (first n i : ℕ) → 16 * (first + n) ≤ length cells → all legal_row (tab n (λ k. row_at cells (first + k))) ≡ true → i < n
+    → (length (take (16 * (first + i) + 16 - 16 * (first + i)) (drop (16 * (first + i)) cells)) ≡ 16)
+    × (legal_row (take (16 * (first + i) + 16 - 16 * (first + i)) (drop (16 * (first + i)) cells)) ≡ true)
+row-ready cells first n i fits legal h =
+    let part = row-lent cells (first + i) in
+    (ap length part ∙ length_part cells (16 * (first + i)) (omega arith), ap legal_row part ∙ all-tab-at legal_row n (λ k. row_at cells (first + k)) legal i h)
 
 -- the page's lines at the front of the buffer
 pub page-done : (cells xs ys : List ℕ) (p n : ℕ) → Passed cells p (length xs) → n ≡ rows_on (rows_in cells) p → ys ≡ wrote 0 (lines_from cells (60 * p) n) xs
