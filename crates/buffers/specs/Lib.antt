@@ -1,2 +1,3 @@
 pub mod Ascii
+pub mod Bytes
 pub mod Buffers

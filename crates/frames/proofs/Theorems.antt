@@ -1,6 +1,6 @@
 -- Writing and reading undo each other, for all input. `HasRow` and `Bytes` say what a frame and a `&[u8]` hold by their types:
 -- a row is 16 cells, and every byte is below 256.
-use Prim.Native.Nat.{ℕ}
+use Prim.Native.Nat.{ℕ, ◌+◌, ◌*◌}
 use mathlib.Core.Path.{◌≡◌, refl, sym, ◌∙◌, ap, subst}
 use mathlib.Core.Bool.{true, false, ◌&&◌, ◌||◌}
 use mathlib.Core.List.{List, [], ◌∷◌}
@@ -13,17 +13,18 @@ use Rattle.limits.specs.Questions.{ask, first_no}
 use Rattle.limits.proofs.Laws.Choice.{and_right, test}
 use Rattle.limits.proofs.Laws.Lists.{length-tab}
 use Rattle.limits.proofs.Laws.Questions.{passed_first, front-passed}
+use Rattle.buffers.specs.Bytes.{byte, Bytes, cell_bytes, number2}
+use Rattle.buffers.proofs.Laws.Bytes.{length-cells, none-small, cons-small, cells-small, cells-read}
 use Rattle.frames.specs.declared.DataFrame.{DataFrame}
 use Rattle.frames.specs.declared.Frame.{Frame}
 use Rattle.frames.specs.declared.ReplyFrame.{ReplyFrame}
 use Rattle.frames.specs.declared.Frame.TheVariants.{Data, Reply}
-use Rattle.frames.specs.Layout.{byte, cell_at, cell_bytes, data_bytes, bytes_of, size_of, frame_into, data_of, reply_of, is_data, is_reply, reading}
+use Rattle.frames.specs.Layout.{data_bytes, bytes_of, size_of, frame_into, data_of, reply_of, is_data, is_reply, reading}
 use Rattle.frames.specs.Rules.{value_questions, read_questions, write_questions}
-use Rattle.frames.specs.Meanings.{Bytes, HasRow, ReadAs, WrittenAs, Readable}
-use Rattle.frames.proofs.Laws.Cells.{length-cells}
+use Rattle.frames.specs.Meanings.{HasRow, ReadAs, WrittenAs, Readable}
 use Rattle.frames.proofs.Laws.Values.{data-fits, data-legal, reply-fits}
 use Rattle.frames.proofs.Laws.Reading.{Kind, data-kind, reply-kind, values-decide, accepted-kind}
-use Rattle.frames.proofs.Laws.Bytes.{cells-again, data-again, reply-again, none-small, cons-small, four-small, cells-small}
+use Rattle.frames.proofs.Laws.Bytes.{data-again, reply-again, four-small}
 
 -- the layout alone: a frame's values stand in its bytes
 pub length-bytes : (f : Frame) → HasRow f → length (bytes_of f) ≡ size_of f
@@ -32,7 +33,7 @@ length-bytes (Reply f) l = refl
 
 pub data-of-bytes : (f : DataFrame) → length f.data.row ≡ 16 → data_of (data_bytes f) ≡ f
 data-of-bytes f l =
-    λ i. record { life = f.life; window = f.window; «data» = record { number = f.data.number; row = cells-again f.data.row 1 f.life f.window f.data.number l i } }
+    λ i. record { life = f.life; window = f.window; «data» = record { number = f.data.number; row = cells-read (1 ∷ f.life ∷ f.window ∷ f.data.number ∷ []) f.data.row 4 16 refl (sym l) i } }
 
 kind-of-bytes : (f : Frame) → HasRow f → Kind (bytes_of f) f
 kind-of-bytes (Data f) l = let k = data-kind (data_bytes f) refl in record { known = k.known; means = k.means ∙ ap Data (data-of-bytes f l) }
@@ -67,7 +68,7 @@ write-read bytes small e =
     (λ d. let first = eqb-true (byte bytes 0) 1 d in
     let k = data-kind bytes first in
     let t = accepted-kind bytes (Data (data_of bytes)) k e in
-    subst (λ f. WrittenAs f bytes) (sym k.means) (record { row = length-tab 16 (cell_at bytes); accepted = t.1; gives = data-again bytes t.0 small first }))
+    subst (λ f. WrittenAs f bytes) (sym k.means) (record { row = length-tab 16 (λ k. number2 bytes (4 + 2 * k)); accepted = t.1; gives = data-again bytes t.0 small first }))
     (λ d. let first = eqb-true (byte bytes 0) 2 (some-kind bytes e d) in
     let k = reply-kind bytes first in
     let t = accepted-kind bytes (Reply (reply_of bytes)) k e in

@@ -1,17 +1,13 @@
 -- The layout of frames: what is written, byte by byte, and where each value is read.
-use Rattle.std.specs.Prelude.{ℕ, ◌+◌, ◌*◌, ◌%◌, ◌/◌, Bool, List, [], ◌∷◌, ◌++◌, eqb, get_or, drop}
-use Rattle.limits.specs.Lists.{tab}
+use Rattle.std.specs.Prelude.{ℕ, Bool, List, [], ◌∷◌, ◌++◌, eqb, drop}
 use Rattle.limits.specs.Questions.{pick}
+use Rattle.buffers.specs.Bytes.{byte, cells_at, cell_bytes}
 use Rattle.frames.specs.declared.DataFrame.{DataFrame}
 use Rattle.frames.specs.declared.ReplyFrame.{ReplyFrame}
 use Rattle.frames.specs.declared.Frame.{Frame}
 use Rattle.frames.specs.declared.Frame.TheVariants.{Data, Reply}
 
--- Written: each cell low byte first.
-abbrev pub cell_bytes : List ℕ → List ℕ
-cell_bytes [] = []
-cell_bytes (cell ∷ cells) = cell % 256 ∷ cell / 256 ∷ cell_bytes cells
-
+-- Written.
 abbrev pub data_bytes : DataFrame → List ℕ
 data_bytes f = 1 ∷ f.life ∷ f.window ∷ f.data.number ∷ cell_bytes f.data.row
 
@@ -37,19 +33,13 @@ reply_into f buffer = reply_bytes f ++ drop 5 buffer
 abbrev pub frame_into : Frame → List ℕ → List ℕ
 frame_into f buffer = bytes_of f ++ drop (size_of f) buffer
 
--- Read: byte i, counted from 0, and cell k of a data frame.
-abbrev pub byte : List ℕ → ℕ → ℕ
-byte bytes i = get_or bytes i 0
-
-abbrev pub cell_at : List ℕ → ℕ → ℕ
-cell_at bytes k = byte bytes (4 + 2 * k) + 256 * byte bytes (5 + 2 * k)
-
+-- Read.
 abbrev pub data_of : List ℕ → DataFrame
 data_of bytes =
     record {
       life = byte bytes 1;
       window = byte bytes 2;
-      «data» = record { number = byte bytes 3; row = tab 16 (cell_at bytes) };
+      «data» = record { number = byte bytes 3; row = cells_at bytes 4 16 };
     }
 
 abbrev pub reply_of : List ℕ → ReplyFrame

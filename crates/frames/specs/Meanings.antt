@@ -1,14 +1,11 @@
 -- What the theorems on frames speak of: frames as the language holds them, and bytes that are read as a frame.
-use Rattle.std.specs.Prelude.{ℕ, ◌<◌, ◌≡◌, List, length}
+use Rattle.std.specs.Prelude.{◌≡◌, ℕ, List, length}
 use Rattle.limits.specs.Questions.{first_no}
 use Rattle.frames.specs.declared.Frame.{Frame}
 use Rattle.frames.specs.declared.Frame.TheVariants.{Data, Reply}
-use Rattle.frames.specs.Layout.{byte, bytes_of, reading}
+use Rattle.buffers.specs.Bytes.{Bytes}
+use Rattle.frames.specs.Layout.{bytes_of, reading}
 use Rattle.frames.specs.Rules.{value_questions, read_questions}
-
--- what a `&[u8]` holds
-abbrev pub Bytes : List ℕ → Type 0
-Bytes bytes = (i : ℕ) → byte bytes i < 256
 
 -- a row is the 16 cells of an array
 abbrev pub HasRow : Frame → Type 0

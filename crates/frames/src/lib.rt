@@ -1,14 +1,10 @@
 // Frames as they travel over the air: read from any bytes, and written into a lent buffer.
 #![tactic(auto)]
 
-ghost use Rattle.std.specs.Prelude.{◌≤◌, ◌%◌, ◌/◌, ◌≡◌, [], ◌∷◌, ◌++◌, length, take, drop};
+ghost use Rattle.std.specs.Prelude.{◌≤◌, ◌≡◌, [], ◌∷◌, length};
 ghost use Rattle.limits.specs.Answer.{number_of};
-ghost use Rattle.limits.specs.Lists.{tab};
 ghost use Rattle.limits.specs.Questions.{Answered, first_no};
 ghost use Rattle.frames.specs.Layout.{
-  byte,
-  cell_at,
-  cell_bytes,
   data_into,
   reply_into,
   data_of,
@@ -27,6 +23,7 @@ ghost use Rattle.frames.specs.Rules.{
   write_questions,
 };
 ghost use Rattle.buffers.specs.Buffers.{writing, WriteCall};
+ghost use Rattle.buffers.specs.Bytes.{cells_at};
 
 use limits::answer::Refusal;
 use limits::messages::{Data, Reply};
@@ -105,7 +102,7 @@ fn value_answer(frame: &Frame) -> Result<(), Refusal>
 
 fn cells_of(bytes: &[u8]) -> [u16; 16]
     requires { length bytes.now ≡ 36 }
-    ensures { result ≡ tab 16 (cell_at bytes.now) }
+    ensures { result ≡ cells_at bytes.now 4 16 }
 {
     array::from_fn(|k| u16::from_le_bytes([bytes[4 + 2 * k], bytes[5 + 2 * k]]))
 }
@@ -164,18 +161,6 @@ pub fn read(bytes: &[u8]) -> Result<Frame, Refusal>
     Ok(frame)
 }
 
-// The cells of a data frame, from byte 4 on.
-fn put_cells(buffer: &mut [u8], row: [u16; 16])
-    requires { 36 ≤ length buffer.old }
-    ensures { buffer.new ≡ take 4 buffer.old ++ cell_bytes row ++ drop 36 buffer.old }
-{
-    for (i, cell) in row.iter().enumerate() {
-        let [low, high] = cell.to_le_bytes();
-        buffer[4 + 2 * i] = low;
-        buffer[5 + 2 * i] = high;
-    }
-}
-
 // Stays (no plainer): each `as` narrows a number whose bound is proved; `try_from` would give an error that cannot be.
 fn put_data(f: &DataFrame, buffer: &mut [u8])
     requires { (first_no (data_questions f.now) ≡ 0) × (36 ≤ length buffer.old) }
@@ -185,7 +170,7 @@ fn put_data(f: &DataFrame, buffer: &mut [u8])
     buffer[1] = f.life as u8;
     buffer[2] = f.window as u8;
     buffer[3] = f.data.number as u8;
-    put_cells(buffer, f.data.row);
+    buffers::cells(buffer, 4, &f.data.row);
 }
 
 fn put_reply(f: &ReplyFrame, buffer: &mut [u8])

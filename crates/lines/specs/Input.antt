@@ -1,21 +1,14 @@
 -- How the trial's input is laid out: six bytes of limits, the number of rows, the cells of the rows, then event bytes.
-use Rattle.std.specs.Prelude.{ℕ, ◌+◌, ◌*◌, Bool, ◌&&◌, List, leb, length, get_or, drop}
+use Rattle.std.specs.Prelude.{ℕ, ◌+◌, ◌*◌, Bool, ◌&&◌, List, leb, length, drop}
 use Rattle.limits.specs.declared.Limits.{Limits}
 use Rattle.limits.specs.Lists.{tab}
+use Rattle.buffers.specs.Bytes.{byte, number2}
 
 abbrev pub most_input : ℕ
 most_input = 40960
 
--- byte i, counted from 0, and 0 past the end
-abbrev pub byte_at : List ℕ → ℕ → ℕ
-byte_at input i = get_or input i 0
-
--- a number of two bytes, low byte first
-abbrev pub pair_of : ℕ → ℕ → ℕ
-pair_of low high = low + 256 * high
-
 abbrev pub row_count : List ℕ → ℕ
-row_count input = byte_at input 6
+row_count input = byte input 6
 
 -- A row is 32 bytes; the events start behind the rows.
 abbrev pub event_start : List ℕ → ℕ
@@ -28,16 +21,16 @@ readable input = leb (event_start input) (length input) && leb (length input) mo
 unfoldable pub limits_of : List ℕ → Limits
 limits_of input =
     record {
-      window = byte_at input 0;
-      datalife = byte_at input 1;
-      replylife = byte_at input 2;
-      replywait = byte_at input 3;
-      resendwait = pair_of (byte_at input 4) (byte_at input 5);
+      window = byte input 0;
+      datalife = byte input 1;
+      replylife = byte input 2;
+      replywait = byte input 3;
+      resendwait = number2 input 4;
     }
 
 -- cell i of all the rows, counted from 0
 unfoldable pub cell_at : List ℕ → ℕ → ℕ
-cell_at input i = pair_of (byte_at input (7 + 2 * i)) (byte_at input (8 + 2 * i))
+cell_at input i = number2 input (7 + 2 * i)
 
 unfoldable pub supply_of : List ℕ → List ℕ
 supply_of input = tab (16 * row_count input) (cell_at input)

@@ -1,8 +1,8 @@
 // Inner: called by report. The parts of the trial's input: question 29, the limits, the rows.
 ghost use Rattle.std.specs.Prelude.{◌≡◌, ◌<◌, ◌≤◌};
 ghost use Rattle.limits.specs.Lists.{tab};
+ghost use Rattle.buffers.specs.Bytes.{byte};
 ghost use Rattle.lines.specs.Input.{
-  byte_at,
   row_count,
   event_start,
   readable,
@@ -15,7 +15,7 @@ use std::array;
 
 // Byte `at`, and 0 past the end.
 pub fn byte(input: &[u8], at: usize) -> u8
-    ensures { result ≡ byte_at input.now at }
+    ensures { result ≡ byte input.now at }
 {
     input.get(at).copied().unwrap_or(0)
 }

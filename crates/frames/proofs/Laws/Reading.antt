@@ -11,9 +11,10 @@ use Rattle.limits.specs.Lists.{all}
 use Rattle.limits.specs.Questions.{ask, first_no}
 use Rattle.limits.proofs.Laws.Choice.{pick_yes, pick_no, both, and-no-left, and-no-right}
 use Rattle.limits.proofs.Laws.Questions.{numbered, passed_first}
+use Rattle.buffers.specs.Bytes.{byte}
 use Rattle.frames.specs.declared.Frame.{Frame}
 use Rattle.frames.specs.declared.Frame.TheVariants.{Data, Reply}
-use Rattle.frames.specs.Layout.{byte, is_data, is_reply, data_of, reply_of, reading, size_of}
+use Rattle.frames.specs.Layout.{is_data, is_reply, data_of, reply_of, reading, size_of}
 use Rattle.frames.specs.Rules.{value_questions, layout_questions, read_questions}
 
 -- a first byte that 22 takes, and the frame that goes with it

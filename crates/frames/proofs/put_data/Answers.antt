@@ -1,6 +1,8 @@
 use mathlib.Core.Path.{◌∙◌}
 use native.Mathlib.Omega.{arith}
 use lib.ListN.{length-set}
+use Rattle.std.proofs.Common.{rules}
+use Rattle.buffers.proofs.Laws.Bytes.{length-cells}
 use Rattle.frames.proofs.Laws.Writing.{data-put}
 use Rattle.frames.proofs.Laws.Values.{data-fits}
 use Rattle.frames.proofs.put_data.Goals as goal
@@ -23,8 +25,7 @@ overflow_cast-buffer-3 c = let f = data-fits c.args.f.now c.requires.0 in omega 
 pub bounds-buffer-3 : goal.bounds-buffer-3
 bounds-buffer-3 c = simp length-set (omega arith)
 
-pub shape_of-buffer : goal.shape_of-buffer
-shape_of-buffer c = c.put_cells.auto.buffer ∙ simp length-set
-
 pub returns : goal.returns
-returns c = c.put_cells.ensures ∙ data-put c.args.buffer.now _ _ _ _ _ (omega arith)
+returns c =
+    let n = length-cells c.args.f.now.data.row in
+    c.cells.ensures ∙ data-put c.args.buffer.now _ _ _ _ _ (omega arith) (search rules)
