@@ -40,6 +40,9 @@ static const struct matlink_text matlink_texts[] = {
     {MATLINK_BAD_RECORD_LENGTH, "the record ends inside a row, or has more than 100,000 rows"},
     {MATLINK_NO_SUCH_PAGE, "the record has no row for this page (pages count from 0)"},
     {MATLINK_SHORT_PAGE_BUFFER, "the buffer is shorter than the page"},
+    {MATLINK_BAD_FILE, "contents, bodies or cells are not those of a horse's file, or the buffer is shorter than the file"},
+    {MATLINK_SAVED_TWICE, "a horse, leg and save stand in the file twice"},
+    {MATLINK_NO_SUCH_LEG, "the file has no such leg of the horse"},
 };
 
 const char *matlink_answer_text(uint8_t answer) {

@@ -2,7 +2,7 @@
 //! with docs/RIDES.md.
 
 /// By number: Done or the refusal's name in crates/limits, and the words.
-pub const NUMBERS: [(&str, &str); 33] = [
+pub const NUMBERS: [(&str, &str); 36] = [
     ("Done", "the event was carried out"),
     ("BadWindow", "the window is not 1 to 32"),
     ("BadTimes", "the data life, the reply life or the reply wait is not 1 to 250"),
@@ -36,6 +36,9 @@ pub const NUMBERS: [(&str, &str); 33] = [
     ("BadRecordLength", "the record ends inside a row, or has more than 100,000 rows"),
     ("NoSuchPage", "the record has no row for this page (pages count from 0)"),
     ("ShortPageBuffer", "the buffer is shorter than the page"),
+    ("BadFile", "contents, bodies or cells are not those of a horse's file, or the buffer is shorter than the file"),
+    ("SavedTwice", "a horse, leg and save stand in the file twice"),
+    ("NoSuchLeg", "the file has no such leg of the horse"),
 ];
 
 /// What a number means.

@@ -1,5 +1,5 @@
 /* The header's functions on links from C: good and refused input of each, and every answer that they give. tests/exports_bytes.c
- * has those on frames and pages.
+ * has those on frames, pages and files.
  *
  *   exports          does the calls
  *   exports texts    the text of each number from 0 to 255 */

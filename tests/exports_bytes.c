@@ -1,4 +1,4 @@
-/* The header's functions on frames and pages from C: good and refused input of each, and every answer that they give. */
+/* The header's functions on frames, pages and files from C: good and refused input of each, and every answer that they give. */
 #include "matlink.h"
 #include <stdio.h>
 #include <string.h>
@@ -134,10 +134,81 @@ static void pages(void) {
     page("part of a row", all - 1, 2, 0);
 }
 
+/* Two saves of leg 3 of horse 258: a row, and no rows. */
+static uint8_t entries[2 * MATLINK_FILE_SAVED_BYTES + 1] = {2, 1, 3, 1, 1, 0, 2, 1, 3, 2, 0, 0};
+static uint16_t rows[2 * MATLINK_ROW_CELLS] = {0, 255, 256, MATLINK_CELL_MOST, MATLINK_CELL_TORN};
+static uint8_t file[56];
+static const uint8_t *const lent_file = file, *const lent_entries = entries;
+static const uint16_t *const lent_rows = rows;
+
+static void write_file(const char *what, size_t entries_count, size_t rows_count, size_t buffer_count) {
+    uint8_t answer;
+    size_t i, behind = 0;
+    memset(file, 77, sizeof file);
+    written = 99;
+    answer = matlink_file_write(lent_entries, entries_count, lent_rows, rows_count, file, buffer_count, &written);
+    for (i = (size_t)written; i < sizeof file; i++) behind += file[i] == 77;
+    printf("file, %s: %u, count %u, as it was behind %u\n", what, answer, (unsigned)written, (unsigned)behind);
+}
+
+static void look_up(const char *what, size_t count, uint32_t horse, uint32_t leg) {
+    uint64_t start = 99, length = 99;
+    uint8_t answer = matlink_file_lookup(lent_file, count, horse, leg, &start, &length);
+    printf("look up, %s: %u, start %u, length %u\n", what, answer, (unsigned)start, (unsigned)length);
+}
+
+static void print_file(void) {
+    size_t i;
+    for (i = 0; i < (size_t)written; i++) printf("%u%s", file[i], i % 10 == 0 || i + 1 == written ? "\n" : " ");
+}
+
+static void look_up_order(void) {
+    look_up("save 2, without rows", 53, 258, 3);
+    look_up("leg 4", 53, 258, 4);
+    look_up("horse 258 modulo 65,536", 53, 65536 + 258, 3);
+    look_up("leg 3 modulo 256", 53, 258, 256 + 3);
+    file[21] = 0;
+    file[22] = 16;
+    look_up("cell 4096", 53, 258, 3);
+    file[21] = file[22] = 255;
+    look_up("torn", 53, 258, 3);
+    /* from here on one thing more is wrong each time, and it is asked before the others */
+    look_up("leg 0", 53, 258, 0);
+    file[14] = 1;
+    look_up("save 1 twice", 53, 258, 0);
+    file[17] = 21;
+    look_up("start 21", 53, 258, 0);
+    look_up("no byte", 0, 258, 0);
+}
+
+static void files(void) {
+    const size_t both = 2 * MATLINK_FILE_SAVED_BYTES;
+    write_file("one entry", MATLINK_FILE_SAVED_BYTES, MATLINK_ROW_CELLS, 43);
+    look_up("save 1", 43, 258, 3);
+    write_file("two entries", both, MATLINK_ROW_CELLS, 53);
+    print_file();
+    look_up_order();
+    write_file("more room", both, MATLINK_ROW_CELLS, sizeof file);
+    write_file("no entry", 0, 0, 1);
+    look_up("of no entry", 1, 0, 1);
+    write_file("a row more", both, 2 * MATLINK_ROW_CELLS, sizeof file);
+    write_file("a cell less", both, MATLINK_ROW_CELLS - 1, sizeof file);
+    write_file("13 bytes", both + 1, MATLINK_ROW_CELLS, sizeof file);
+    rows[15] = MATLINK_CELL_MOST + 1;
+    write_file("cell 4096", both, MATLINK_ROW_CELLS, 53);
+    rows[15] = 0;
+    entries[9] = 1;
+    write_file("save 1 twice", both, MATLINK_ROW_CELLS, 53);
+    write_file("52 bytes of room", both, MATLINK_ROW_CELLS, 52);
+    entries[8] = MATLINK_FILE_LEG_MOST + 1;
+    write_file("leg 7", both, MATLINK_ROW_CELLS, 53);
+}
+
 int main(void) {
     data_frames();
     reply_frames();
     read_order();
     pages();
+    files();
     return 0;
 }

@@ -1,7 +1,7 @@
 /* The mat link for C. Each call lends the members of a struct to a function of the static library libexports.a that is proved
- * to meet its contract for every input; matlink_page is such a function itself. The calls work in place: there is nothing to
- * allocate and nothing to close, and what is kept between two calls stands in the struct. matlink_text.c, which gives answers in
- * words, is compiled with the program.
+ * to meet its contract for every input; matlink_page, matlink_file_lookup and matlink_file_write are such functions themselves.
+ * The calls work in place: there is nothing to allocate and nothing to close, and what is kept between two calls stands in the
+ * struct. matlink_text.c, which gives answers in words, is compiled with the program.
  *
  * Slices. A slice is two arguments, a pointer to its first element and the count of its elements. No pointer is NULL, and each
  * is aligned for its type, also where the count is 0.
@@ -10,11 +10,11 @@
  * question answered no, in the order that the function's comment gives, and the call is then refused. The comment says all
  * that a call writes, done or refused; everything else is as it was.
  *
- * Overlap. What a call may write (link, record, answers, counts, out, buffer, count) overlaps nothing else that is handed to
- * the same call. What it only reads (supply, events, frame, the record of matlink_page) may overlap one another. The functions
- * of this header copy the ten numbers of a link, the five numbers of a frame, the counts and `count` to and from variables of
- * their own, and write them back after the proved function has returned, some of them unchanged; arrays and slices are lent as
- * they are.
+ * Overlap. What a call may write (link, record, answers, counts, out, buffer, count, start, length) overlaps nothing else
+ * that is handed to the same call. What it only reads (supply, events, frame, file, entries, rows, the record of
+ * matlink_page) may overlap one another. The functions of this header copy the ten numbers of a link, the five numbers of a
+ * frame, the counts and `count` to and from variables of their own, and write them back after the proved function has
+ * returned, some of them unchanged; arrays and slices are lent as they are.
  *
  * At the same time. A call uses the memory that it is handed and its stack, and no other. So calls may interrupt each other if
  * neither may write what the other is handed.
@@ -26,6 +26,7 @@
 #ifndef MATLINK_H
 #define MATLINK_H
 
+#include "matlink_lent.h"
 #include <stddef.h>
 #include <stdint.h>
 
@@ -51,6 +52,14 @@ extern "C" {
 #define MATLINK_LINE_BYTES 23         /* bytes of a page's line: 5 columns, a space, sixteen digits or hyphens, a line feed */
 #define MATLINK_PAGED_ROWS_MOST 100000 /* rows of a record that has pages */
 #define MATLINK_COUNTS 11             /* numbers of struct matlink_counts */
+#define MATLINK_FILE_ENTRIES_MOST 64  /* entries of a horse's file */
+#define MATLINK_FILE_ENTRY_BYTES 10   /* bytes of an entry: horse 2, leg 1, save 1, rows 2, start of the body 4 */
+#define MATLINK_FILE_SAVED_BYTES 6    /* the same without the start, as a writer takes it */
+#define MATLINK_FILE_ROW_BYTES 32     /* bytes of a row in a body: sixteen cells with the low byte first */
+#define MATLINK_FILE_LEG_MOST 6       /* legs and saves count from 1 */
+#define MATLINK_FILE_SAVE_MOST 255
+#define MATLINK_FILE_ROWS_MOST 65535  /* rows of a body; it may have none */
+#define MATLINK_FILE_BYTES_MOST 134216321 /* bytes of the longest file */
 
 /* The kinds of events, with their arguments. Rows and messages are counted from the oldest, which is 0; when a message leaves a
  * table, those behind it move up. */
@@ -106,6 +115,9 @@ enum matlink_answer {
     MATLINK_BAD_RECORD_LENGTH = 30,    /* page: is the record whole rows, and at most 100,000? */
     MATLINK_NO_SUCH_PAGE = 31,         /* page: has the record a row for it? */
     MATLINK_SHORT_PAGE_BUFFER = 32,    /* page: has the buffer 23 bytes for each row of it? */
+    MATLINK_BAD_FILE = 33,             /* file: does it fit the rules, and, when it is written, the buffer? */
+    MATLINK_SAVED_TWICE = 34,          /* file: does no horse, leg and save stand there twice? */
+    MATLINK_NO_SUCH_LEG = 35,          /* file: has the horse this leg? */
 };
 
 /* The text of an answer, in the words of docs/RIDES.md, and "unknown answer" for a number that is none. It is constant and
@@ -156,27 +168,6 @@ struct matlink_frame {
     uint16_t kind, life, window, number, last, cell[MATLINK_ROW_CELLS];
 };
 
-/* Inner: the proved functions that the calls below lend to. Each asks, answers and writes as the function of its name below.
- * The numbers of a link are lent as an array of ten, those of a frame as an array of five and the counts as an array of
- * MATLINK_COUNTS, in the order of their struct. */
-uint8_t matlink_lent_open(uint16_t *head, uint16_t *mat_mark, uint16_t *mat_timer, uint16_t *mat_cell, uint16_t *pad_mark,
-                          uint16_t *pad_timer, uint16_t *pad_cell, uint16_t *data, uint16_t *reply, uint32_t window,
-                          uint32_t data_life, uint32_t reply_life, uint32_t reply_wait, uint32_t resend_wait);
-uint8_t matlink_lent_step(uint16_t *head, uint16_t *mat_mark, uint16_t *mat_timer, uint16_t *mat_cell, uint16_t *pad_mark,
-                          uint16_t *pad_timer, uint16_t *pad_cell, uint16_t *data, uint16_t *reply, uint32_t kind,
-                          uint32_t argument, const uint16_t *supply, size_t supply_count, uint16_t *record,
-                          size_t record_count, size_t *counts);
-uint8_t matlink_lent_run(uint16_t *head, uint16_t *mat_mark, uint16_t *mat_timer, uint16_t *mat_cell, uint16_t *pad_mark,
-                         uint16_t *pad_timer, uint16_t *pad_cell, uint16_t *data, uint16_t *reply, const uint8_t *events,
-                         size_t events_count, const uint16_t *supply, size_t supply_count, uint16_t *record,
-                         size_t record_count, uint8_t *answers, size_t answers_count, size_t *counts);
-uint8_t matlink_lent_ride(uint32_t window, uint32_t data_life, uint32_t reply_life, uint32_t reply_wait, uint32_t resend_wait,
-                          const uint8_t *events, size_t events_count, const uint16_t *supply, size_t supply_count,
-                          uint16_t *record, size_t record_count, uint8_t *answers, size_t answers_count, size_t *counts);
-uint8_t matlink_lent_read_frame(const uint8_t *frame, size_t frame_count, uint16_t *head, uint16_t *cells);
-uint8_t matlink_lent_write_frame(const uint16_t *head, const uint16_t *cells, uint8_t *buffer, size_t buffer_count,
-                                 size_t *count);
-
 /* Writes a page of a record as text to the front of the buffer: up to 60 rows, from row 60 times `page` on. Pages count from 0.
  * A line is 23 bytes of ASCII: the row's number, counted from 0, at the right of 5 columns, with spaces in front; a space; for
  * each cell a digit, its shade, which is the cell times 10 divided by 4096, rounded down, or a hyphen where the cell is torn; a
@@ -189,6 +180,34 @@ uint8_t matlink_lent_write_frame(const uint16_t *head, const uint16_t *cells, ui
  * Stack: 56 bytes. */
 uint8_t matlink_page(const uint16_t *record, size_t record_count, uint64_t page, uint8_t *buffer, size_t buffer_count,
                      uint64_t *count);
+
+/* A horse's file has a byte c, 0 to 64; c entries of 10 bytes, its contents; then, up to the file's end, the bodies in the
+ * same order without gaps, 32 bytes for each row. An entry is horse (2 bytes), leg (1), save (1), rows (2), and where its
+ * body starts (4), counted from the file's first byte; numbers and cells stand low byte first. Of a horse's leg the body
+ * with the highest save is current.
+ *
+ * Finds the current body of a horse's leg.
+ * Asked in this order: the file fits the rules (33): c is at most 64, and the file is long enough for its contents; each leg
+ * is 1 to 6, and no save is 0; the first body starts behind the contents, each other one where the one before it ends, and
+ * the last one ends with the file; every cell of every body is legal, 0 to 4095 or 65535. No horse, leg and save stand there
+ * twice, whichever horse is looked up (34). The horse has the leg (35), whatever numbers these two are.
+ * Done: `start` and `length` get the place of the body in the file, in bytes. A body of no rows has length 0.
+ * Refused: they get 0 and 0, whichever question it was.
+ * A call reads each cell of the file once, and for 34 compares each two entries at most once.
+ * Stack: 52 bytes. */
+uint8_t matlink_file_lookup(const uint8_t *file, size_t file_count, uint32_t horse, uint32_t leg, uint64_t *start,
+                            uint64_t *length);
+
+/* Writes a horse's file to the front of the buffer. `entries` has 6 bytes for each entry: horse (2), leg (1), save (1), rows
+ * (2), low byte first. `rows` has the cells of all their rows, 16 a row, in the same order. The starts are worked out.
+ * Asked in this order: this makes a file, and the buffer holds it (33): whole entries, at most 64; each leg is 1 to 6, and
+ * no save is 0; just the cells of the rows that the entries count, each legal; a byte of the buffer for the count, 10 for
+ * each entry and 32 for each row. No horse, leg and save stand there twice (34).
+ * Done: `count` gets the count of bytes written, and the bytes behind them are as they were.
+ * Refused: the buffer is as it was, and `count` gets 0, whichever question it was.
+ * Stack: 114 bytes. */
+uint8_t matlink_file_write(const uint8_t *entries, size_t entries_count, const uint16_t *rows, size_t rows_count, uint8_t *buffer,
+                           size_t buffer_count, uint64_t *count);
 
 #ifdef __cplusplus
 }
@@ -351,7 +370,7 @@ static inline uint8_t matlink_read_frame(const uint8_t *frame, size_t frame_coun
  * Done: `count` gets the count of bytes written, 36 of a data frame and 5 of a reply frame, and the bytes behind them are as
  * they were.
  * Refused: the buffer is as it was, and `count` gets 0, whichever question it was.
- * Stack: 208 bytes, the proved function 160. */
+ * Stack: 224 bytes, the proved function 176. */
 static inline uint8_t matlink_write_frame(const struct matlink_frame *frame, uint8_t *buffer, size_t buffer_count,
                                           uint64_t *count) {
     uint16_t head[5];

@@ -8,12 +8,10 @@ use crate::limits::{number, Limits, Refusal, CELLS};
 use crate::matlink::{head_of, without_free, Matlink};
 use crate::members::{members, name, named};
 use crate::ride_text::words;
+use crate::written::NO_COUNT;
 
 /// What stands in a lent buffer that nothing must write.
 const BLANK: u16 = 0xAAAA;
-
-/// The same for counts.
-const NO_COUNT: u64 = u64::MAX;
 
 /// Numbers behind the kept link and behind the counts, which must stay.
 const BEHIND: usize = 2;

@@ -1,6 +1,7 @@
 //! Frames: the bytes of one message on the radio, read and written.
 
-use crate::limits::{ask, legal, Refusal, Row, CELLS};
+use crate::cell_bytes;
+use crate::limits::{ask, legal, Refusal, Row};
 
 /// Bytes of a data frame.
 pub const DATA_LENGTH: usize = 36;
@@ -65,11 +66,7 @@ pub fn read(bytes: &[u8]) -> Result<Frame, Refusal> {
     let frame = match bytes.first() {
         Some(1) => {
             ask(bytes.len() == DATA_LENGTH, Refusal::FrameLength)?;
-            let mut row = [0; CELLS];
-            for (cell, pair) in row.iter_mut().zip(bytes[4..].chunks_exact(2)) {
-                *cell = u16::from_le_bytes([pair[0], pair[1]]);
-            }
-            Frame::Data { life: bytes[1], window: bytes[2], number: bytes[3], row }
+            Frame::Data { life: bytes[1], window: bytes[2], number: bytes[3], row: cell_bytes::row(&bytes[4..]) }
         }
         Some(2) => {
             ask(bytes.len() == REPLY_LENGTH, Refusal::FrameLength)?;
@@ -88,9 +85,7 @@ pub fn write(frame: &Frame, buffer: &mut [u8]) -> Result<usize, Refusal> {
         Frame::Data { life, window, number, row } => {
             let place = buffer.get_mut(..DATA_LENGTH).ok_or(Refusal::FrameBufferShort)?;
             place[..4].copy_from_slice(&[1, *life, *window, *number]);
-            for (pair, cell) in place[4..].chunks_exact_mut(2).zip(row) {
-                pair.copy_from_slice(&cell.to_le_bytes());
-            }
+            cell_bytes::put(&mut place[4..], row);
             Ok(DATA_LENGTH)
         }
         Frame::Reply { life, window, first, last } => {

@@ -7,14 +7,21 @@
 #![warn(missing_docs)]
 
 pub mod air;
+pub mod answers;
 pub mod audit;
 pub mod built;
+pub mod cell_bytes;
 pub mod checks;
 pub mod compare;
 pub mod differ;
 pub mod draw;
 pub mod draw_cells;
+pub mod draw_file;
 pub mod draw_link;
+pub mod file;
+pub mod file_checks;
+pub mod file_lists;
+pub mod file_met;
 pub mod frame_checks;
 pub mod frame_lists;
 pub mod frames;
@@ -43,3 +50,4 @@ pub mod trial;
 pub mod trials;
 pub mod unbounded;
 pub mod wait_checks;
+pub mod written;

@@ -86,6 +86,15 @@ pub trait PageLibrary: Sync {
     fn write_page(&self, record: &[u16], page: u64, buffer: &mut [u8], count: &mut u64) -> u8;
 }
 
+/// The calls for a horse's file. Each gives the number of its answer.
+pub trait FileLibrary: Sync {
+    /// Looks up the current body of a horse's leg, and gives its start and its length in bytes.
+    fn look_up(&self, file: &[u8], horse: u32, leg: u32, start: &mut u64, length: &mut u64) -> u8;
+
+    /// Writes a file of entries, 6 bytes each, and of the cells of their rows, and gives the count of bytes.
+    fn write_file(&self, entries: &[u8], rows: &[u16], buffer: &mut [u8], count: &mut u64) -> u8;
+}
+
 /// The counts as the library writes them.
 pub fn count_numbers(counts: Counts) -> CountNumbers {
     let Counts { sent, acknowledged, recorded, data: d, replies: r } = counts;

@@ -86,6 +86,12 @@ pub enum Refusal {
     NoPage = 31,
     /// Page: no space to write it.
     PageBufferShort = 32,
+    /// File: its contents, bodies or cells do not fit the rules, or there is no space to write it.
+    FileUnsound = 33,
+    /// File: a horse, leg and save occur twice.
+    SavedTwice = 34,
+    /// File: the horse has no such leg.
+    NoLeg = 35,
 }
 
 /// Puts a question. With `?` behind it the first "no" ends the call, which is the paper's order.

@@ -67,17 +67,16 @@ pub fn named<T: Copy + PartialEq + std::fmt::Display>(
     expected: &[T],
     name: impl Fn(usize) -> String,
 ) -> Option<String> {
-    let differ: Vec<usize> = (0..library.len().min(expected.len())).filter(|at| library[*at] != expected[*at]).collect();
-    if differ.is_empty() {
+    // counted and not kept: a file has up to 134,216,321 bytes
+    let differ = || (0..library.len().min(expected.len())).filter(|at| library[*at] != expected[*at]);
+    let count = differ().count();
+    if count == 0 {
         return None;
     }
-    let mut lines: Vec<String> = differ
-        .iter()
-        .take(NAMED)
-        .map(|at| format!("{}: library {}, expected {}", name(*at), library[*at], expected[*at]))
-        .collect();
-    if differ.len() > NAMED {
-        lines.push(format!("and {} more", differ.len() - NAMED));
+    let line = |at| format!("{}: library {}, expected {}", name(at), library[at], expected[at]);
+    let mut lines: Vec<String> = differ().take(NAMED).map(line).collect();
+    if count > NAMED {
+        lines.push(format!("and {} more", count - NAMED));
     }
     Some(lines.join("\n"))
 }

@@ -65,7 +65,7 @@ const TORN_ROWS: [TornRow; 3] = [
     ("a data message", |link| link.data.all().iter().any(|message| torn(&message.row))),
 ];
 
-/// Rows, frames or pages that were accepted.
+/// Rows, frames, pages or bodies that were accepted.
 #[derive(Clone, Copy, Debug, Default, PartialEq, Eq)]
 pub struct Accepted {
     /// All of them.

@@ -1,28 +1,22 @@
 //! The proved page, as the library has it, compared with the one here.
 
-use crate::compare::different;
+use crate::answers::Answers;
 use crate::differ::Difference;
 use crate::draw_cells::random_cells;
 use crate::library::PageLibrary;
 use crate::limits::{number, CELLS, GREATEST_CELL, TORN_CELL};
-use crate::members::named;
 use crate::met::Accepted;
 use crate::page::{page, LINE_LENGTH, PAGE_ROWS};
 use crate::page_lists::{every_cell, long, places, random_call, random_length, wraps_onto_row, PageCall, LONG_CELLS, STEPS};
 use crate::random::Random;
 use crate::report::{Outcome, Replay};
 use crate::threads::Amount;
+use crate::written::{written, Written};
 use std::fmt;
 use std::mem::replace;
 
 /// Bytes of a full page.
 const FULL: usize = PAGE_ROWS * LINE_LENGTH;
-
-/// Bytes behind the lent buffer, which must stay.
-const BEHIND: usize = 2 * LINE_LENGTH;
-
-/// What stands in a lent count before a call.
-const NO_COUNT: u64 = u64::MAX;
 
 /// Calls on each random record.
 const CALLS: u64 = 10;
@@ -30,42 +24,37 @@ const CALLS: u64 = 10;
 /// From so many random calls on, every answer must have come.
 const ENOUGH: u64 = 1_000;
 
-/// The answers that a page can have.
-const ANSWERS: [u8; 5] = [0, 12, 30, 31, 32];
-
-/// How often each answer came, how many calls were for a page of which 60 times the number wraps onto a row, and the pages that
+/// The answers that came, how many calls were for a page of which 60 times the number wraps onto a row, and the pages that
 /// were written.
-#[derive(Clone, Copy, Default)]
+#[derive(Clone, Copy)]
 pub struct Answered {
-    answers: [u64; ANSWERS.len()],
+    answers: Answers<5>,
     wrapped: u64,
     written: Accepted,
+}
+
+impl Default for Answered {
+    fn default() -> Answered {
+        Answered { answers: Answers::of([0, 12, 30, 31, 32]), wrapped: 0, written: Accepted::default() }
+    }
 }
 
 impl Answered {
     /// A call and its answer, which is one of those that a page can have, with the page's cells.
     pub fn call(&mut self, call: &PageCall, answer: u8, cells: &[u16]) {
-        for (times, can) in self.answers.iter_mut().zip(ANSWERS) {
-            *times += u64::from(can == answer);
-        }
+        self.answers.add(answer);
         self.wrapped += u64::from(wraps_onto_row(call));
         if answer == 0 {
             self.written.add(cells);
         }
     }
 
-    fn calls(&self) -> u64 {
-        self.answers.iter().sum()
-    }
-
     /// Whether every answer came, in calls enough, a page that wraps, and a torn cell on a page.
     pub fn all_there(&self) -> Result<(), String> {
-        if self.calls() < ENOUGH {
+        if self.answers.calls() < ENOUGH {
             return Ok(());
         }
-        if let Some((_, answer)) = self.answers.iter().zip(ANSWERS).find(|(times, _)| **times == 0) {
-            return Err(format!("pages: never answered {answer}"));
-        }
+        self.answers.all_there("pages")?;
         if self.wrapped == 0 {
             return Err("pages: none wraps onto a row".into());
         }
@@ -75,9 +64,8 @@ impl Answered {
 
 impl fmt::Display for Answered {
     fn fmt(&self, out: &mut fmt::Formatter) -> fmt::Result {
-        let shown = |(answer, times): (u8, u64)| format!("{answer}: {times}");
-        let answers: Vec<String> = ANSWERS.into_iter().zip(self.answers).map(shown).collect();
-        let (calls, wrapped, answers, written) = (self.calls(), self.wrapped, answers.join(", "), self.written);
+        let Answered { answers, wrapped, written } = self;
+        let calls = answers.calls();
         write!(out, "{calls} calls, {wrapped} for a page that wraps onto a row; answers  {answers}; written {written}")
     }
 }
@@ -145,25 +133,13 @@ impl Compared<'_> {
     }
 }
 
-/// Writing a page: its number, and what differs. No page has a byte as the buffer has them before, and neighbours differ.
+/// Writing a page: its number, and what differs.
 fn difference(library: &dyn PageLibrary, record: &[u16], p: u64, length: usize) -> (u8, Difference) {
-    let mut expected: Vec<u8> = (0..length + BEHIND).map(|at| 128 + (at % 127) as u8).collect();
-    let mut got = expected.clone();
-    let mut count = NO_COUNT;
-    let done = page(record, p, &mut expected[..length]);
-    let answer = library.write_page(record, p, &mut got[..length], &mut count);
-    let found = different(answer, number(&done), || "number of the page".into())
-        .or_else(|| different(count, done.unwrap_or(0) as u64, || "count of bytes".into()))
-        .or_else(|| buffer_difference(&got, &expected));
+    let here = |buffer: &mut [u8]| page(record, p, buffer);
+    let there = |buffer: &mut [u8], count: &mut u64| library.write_page(record, p, buffer, count);
+    let name = |at| format!("buffer[{at}] (line {}, byte {})", at / LINE_LENGTH, at % LINE_LENGTH);
+    let Written { done, found, .. } = written("page", length, here, there, name);
     (number(&done), found)
-}
-
-/// The whole buffer, with the bytes behind it.
-fn buffer_difference(library: &[u8], expected: &[u8]) -> Difference {
-    if library == expected {
-        return None;
-    }
-    named(library, expected, |at| format!("buffer[{at}] (line {}, byte {})", at / LINE_LENGTH, at % LINE_LENGTH))
 }
 
 /// Pages of so many random records, of records of about 100,000 rows, and with every cell. A report leaves out the record's

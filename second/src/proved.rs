@@ -1,10 +1,10 @@
 //! The proved static library (feature `proved`). An array is passed as a pointer, a slice as a pointer and a length; `counts` is
 //! a pointer to the first of eleven numbers, each as wide as a length.
 //!
-//! The functions of the C header but matlink_page are `static inline` and not in the library, so each call here lends as they do.
-//! What it lends it takes back whatever the answer is, so that a refused call that wrote something is found out.
+//! The functions of the C header but those for pages and files are `static inline` and not in the library, so each call here
+//! lends as they do. What it lends it takes back whatever the answer is, so that a refused call that wrote something is found out.
 
-use crate::library::{Asked, CountNumbers, FrameLibrary, Lent, Library, PageLibrary};
+use crate::library::{Asked, CountNumbers, FileLibrary, FrameLibrary, Lent, Library, PageLibrary};
 use crate::matlink::{Matlink, MatlinkFrame};
 
 #[link(name = "exports", kind = "static")]
@@ -97,6 +97,25 @@ unsafe extern "C" {
         record: *const u16,
         record_count: usize,
         page: u64,
+        buffer: *mut u8,
+        buffer_count: usize,
+        count: *mut u64,
+    ) -> u8;
+
+    fn matlink_file_lookup(
+        file: *const u8,
+        file_count: usize,
+        horse: u32,
+        leg: u32,
+        start: *mut u64,
+        length: *mut u64,
+    ) -> u8;
+
+    fn matlink_file_write(
+        entries: *const u8,
+        entries_count: usize,
+        rows: *const u16,
+        rows_count: usize,
         buffer: *mut u8,
         buffer_count: usize,
         count: *mut u64,
@@ -243,5 +262,25 @@ impl FrameLibrary for Proved {
 impl PageLibrary for Proved {
     fn write_page(&self, record: &[u16], page: u64, buffer: &mut [u8], count: &mut u64) -> u8 {
         unsafe { matlink_page(record.as_ptr(), record.len(), page, buffer.as_mut_ptr(), buffer.len(), count) }
+    }
+}
+
+impl FileLibrary for Proved {
+    fn look_up(&self, file: &[u8], horse: u32, leg: u32, start: &mut u64, length: &mut u64) -> u8 {
+        unsafe { matlink_file_lookup(file.as_ptr(), file.len(), horse, leg, start, length) }
+    }
+
+    fn write_file(&self, entries: &[u8], rows: &[u16], buffer: &mut [u8], count: &mut u64) -> u8 {
+        unsafe {
+            matlink_file_write(
+                entries.as_ptr(),
+                entries.len(),
+                rows.as_ptr(),
+                rows.len(),
+                buffer.as_mut_ptr(),
+                buffer.len(),
+                count,
+            )
+        }
     }
 }

@@ -1,6 +1,7 @@
 //! The trial: what the trial program makes of its input, as functions on bytes.
 
 use crate::built::Link;
+use crate::cell_bytes::cells;
 use crate::limits::{ask, Limits, Refusal, CELLS};
 use std::fmt::Write;
 
@@ -35,7 +36,7 @@ pub fn read(bytes: &[u8]) -> Result<Input<'_>, Refusal> {
             resend_wait: u16::from_le_bytes([bytes[4], bytes[5]]),
         },
         events: &bytes[rows.end..],
-        supply: bytes[rows].chunks_exact(2).map(|pair| u16::from_le_bytes([pair[0], pair[1]])).collect(),
+        supply: cells(&bytes[rows]).collect(),
     })
 }
 

@@ -53,6 +53,20 @@ for page in '1 0' '60 0' '100000 0' '100000 1666' '100000 1667' '100001 0'; do
 done
 
 echo
+echo '| entries | rows of each | bytes of the file | instructions, matlink_file_lookup | second | ratio | matlink_file_write | second | ratio |'
+echo '|---|---|---|---|---|---|---|---|---|'
+for file in '0 0' '1 1' '1 60' '6 1000' '64 1' '64 60'; do
+    bytes=$("$bench" file $file)
+    line="| ${file/ / | } | $bytes |"
+    for part in lookup write; do
+        p=$(instructions "matlink_file_$part" "$bench" file $file)
+        s=$(instructions "second_$part" "$bench" file $file)
+        line+=$(awk -v p="$p" -v s="$s" 'BEGIN { printf " %d | %d | %.1f |", p, s, p/s }')
+    done
+    echo "$line"
+done
+
+echo
 echo '| function | bytes of stack |'
 echo '|---|---|'
 "$steps" stack | sed 's/\(.*\)\t\(.*\)/| \1 | \2 |/'
@@ -68,8 +82,8 @@ echo '| functions | bytes of code | of constants |'
 echo '|---|---|---|'
 for name in open step run; do echo "| matlink_lent_$name | $(code "matlink_lent_$name") |"; done
 echo "| these three together | $(code matlink_lent_open matlink_lent_step matlink_lent_run) |"
-echo "| matlink_page | $(code matlink_page) |"
-echo "| all seven | $(code matlink_lent_{open,step,run,ride,read_frame,write_frame} matlink_page) |"
+for name in page file_lookup file_write; do echo "| matlink_$name | $(code "matlink_$name") |"; done
+echo "| all nine | $(code matlink_lent_{open,step,run,ride,read_frame,write_frame} matlink_{page,file_lookup,file_write}) |"
 
 beside=$out/beside
 cc -std=gnu11 -Wall -Wextra -pedantic -O2 -I c/include -o "$beside" tests/by-hand/beside.c "$library"

@@ -211,6 +211,23 @@ static NOINLINE void page(int measured) {
     answers[0] = call(rows, sizeof rows / sizeof rows[0], 0, lines, sizeof lines, &count);
 }
 
+/* A file of two entries, of one row and of none. */
+static uint8_t file[21 + 32];
+
+static NOINLINE void file_write(int measured) {
+    static const uint8_t entries[12] = {1, 0, 1, 1, 1, 0, 1, 0, 1, 2, 0, 0};
+    uint64_t count;
+    CALL(matlink_file_write);
+    answers[0] = call(entries, sizeof entries, cells, MATLINK_ROW_CELLS, file, sizeof file, &count);
+}
+
+/* Of the file that file_write left. */
+static NOINLINE void file_lookup(int measured) {
+    uint64_t start, length;
+    CALL(matlink_file_lookup);
+    answers[0] = call(file, sizeof file, 1, 1, &start, &length);
+}
+
 static NOINLINE void answer_text(int measured) {
     CALL(matlink_answer_text);
     text = call(255);
@@ -239,6 +256,8 @@ static const struct measure measures[] = {
     {"matlink_write_frame", whole_write_frame, 2},
     {"matlink_lent_write_frame", lent_write_frame, 2},
     {"matlink_page", page, 1},
+    {"matlink_file_write", file_write, 1},
+    {"matlink_file_lookup", file_lookup, 1},
     {"matlink_answer_text", answer_text, 0},
 };
 

@@ -29,4 +29,5 @@ lines 'the least wait' crates/limits/specs/Waits.antt $(specs leastwait)
 lines 'the parts' $(specs tables air mat pad)
 lines 'frames' $(specs buffers frames)
 lines 'a page' $(specs buffers page)
+lines 'a file' $(specs buffers horsefile)
 lines 'C' $(specs cframes clinks exports) crates/events/specs/Lent.antt

@@ -1,5 +1,5 @@
-// Inner: called by frames, lines, page, horsefile and report. Bytes written into a lent buffer: what the buffer then holds. Writers
-// answer with the count, or with a refusal (`WriteCall`).
+// Inner: called by frames, lines and horsefile. Bytes written into a lent buffer: what the buffer then holds. Writers answer with
+// the count, or with a refusal (`WriteCall`).
 // Stays (no plainer): a writer takes the whole buffer and a place, and not the rest behind it, since it promises the whole buffer.
 #![tactic(auto)]
 

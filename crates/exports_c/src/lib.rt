@@ -1,9 +1,10 @@
-// The static library for C: each call of `exports`, `cframes` and `page` under its name, with its contract.
+// The static library for C: each call of `exports`, `cframes` and `cfiles` under its name, with its contract.
 #![tactic(auto)]
 
 ghost use Rattle.clinks.specs.Links.{clink};
 ghost use Rattle.exports.specs.Calls.{asked, OpenCall, StepCall, RunCall, RideCall};
 
+pub mod cfile;
 pub mod cframe;
 pub mod cpage;
 

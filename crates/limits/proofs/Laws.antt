@@ -1,6 +1,7 @@
 pub mod Ring
 pub mod Choice
 pub mod Lists
+pub mod Parts
 pub mod Cells
 pub mod Tables
 pub mod Mapped

@@ -1,7 +1,7 @@
 -- The numbers of the answers: 0 is done, any other number names the question that was answered no.
 use Rattle.std.specs.Prelude.{ℕ, Result, Ok, Err}
 use Rattle.limits.specs.declared.answer.Refusal.{Refusal}
-use Rattle.limits.specs.declared.answer.Refusal.TheVariants.{BadWindow, BadTimes, BadWait, Unsound, OddEvents, PartialRow, ShortAnswers, UnknownKind, BadArgument, WindowFull, NoRowLeft, IllegalCell, DataTableFull, NotOutstanding, AlreadyAcknowledged, TimerRunning, NoMessage, ReplyTableFull, SpanNotOutstanding, NothingReady, RecordFull, UnknownFrame, BadFrameLength, BadFrameWindow, BadFrameNumber, BadFrameLife, BadFrameSpan, ShortBuffer, BadInputLength, BadRecordLength, NoSuchPage, ShortPageBuffer}
+use Rattle.limits.specs.declared.answer.Refusal.TheVariants.{BadWindow, BadTimes, BadWait, Unsound, OddEvents, PartialRow, ShortAnswers, UnknownKind, BadArgument, WindowFull, NoRowLeft, IllegalCell, DataTableFull, NotOutstanding, AlreadyAcknowledged, TimerRunning, NoMessage, ReplyTableFull, SpanNotOutstanding, NothingReady, RecordFull, UnknownFrame, BadFrameLength, BadFrameWindow, BadFrameNumber, BadFrameLife, BadFrameSpan, ShortBuffer, BadInputLength, BadRecordLength, NoSuchPage, ShortPageBuffer, BadFile, SavedTwice, NoSuchLeg}
 
 abbrev pub refusal_number : Refusal → ℕ
 refusal_number BadWindow = 1
@@ -36,6 +36,9 @@ refusal_number BadInputLength = 29
 refusal_number BadRecordLength = 30
 refusal_number NoSuchPage = 31
 refusal_number ShortPageBuffer = 32
+refusal_number BadFile = 33
+refusal_number SavedTwice = 34
+refusal_number NoSuchLeg = 35
 
 abbrev pub number_of : {X : Type 0} → Result X Refusal → ℕ
 number_of (Ok x) = 0

@@ -37,6 +37,9 @@ pub enum Refusal {
     BadRecordLength,
     NoSuchPage,
     ShortPageBuffer,
+    BadFile,
+    SavedTwice,
+    NoSuchLeg,
 }
 
 impl From<Refusal> for u8 {
@@ -76,6 +79,9 @@ impl From<Refusal> for u8 {
             Refusal::BadRecordLength => 30,
             Refusal::NoSuchPage => 31,
             Refusal::ShortPageBuffer => 32,
+            Refusal::BadFile => 33,
+            Refusal::SavedTwice => 34,
+            Refusal::NoSuchLeg => 35,
         }
     }
 }

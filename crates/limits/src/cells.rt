@@ -1,4 +1,4 @@
-// Inner: called by rows and page. Which cells are legal.
+// Inner: called by rows, page and horsefile. Which cells are legal.
 ghost use Rattle.std.specs.Prelude.{◌≡◌, leb};
 ghost use Rattle.limits.specs.Cells.{legal_cell};
 ghost use Rattle.limits.specs.declared.cells.TheConstants.{LEGAL};

@@ -1,5 +1,5 @@
-// Inner: called by tables, air, mat, pad and frames. Work on rows of 16 cells and on arrays of 32 entries, each helper with what
-// it needs alone.
+// Inner: called by tables, air, mat, pad, frames, page and horsefile. Work on rows of 16 cells and on arrays of 32 entries, each
+// helper with what it needs alone.
 // Stays (no plainer): that a place or a width lies in its array is a clause of each function, here and above: a type for places would
 // be made of each number and taken apart at each index.
 #![tactic(auto)]

@@ -2,11 +2,14 @@
 //!
 //! `bench time` prints a line for each ride: name, window, events, how many are refused, and events per second of both. `bench proved N` and
 //! `bench second N` do ride N once; their work stands in matlink_lent_run and in second_run. `bench page ROWS P` writes page P of
-//! a record of so many rows by both; their work stands in matlink_page and in second_page.
+//! a record of so many rows by both; their work stands in matlink_page and in second_page. `bench file N ROWS` writes a file of
+//! N entries of so many rows each by both, and looks up the last of them; their work stands in matlink_file_write and second_write, in
+//! matlink_file_lookup and second_lookup.
 
 use second::built::{Counts, Link};
 use second::draw_cells::random_cells;
-use second::library::{asked, count_numbers, CountNumbers, Lent, Library, PageLibrary, ZERO_COUNTS};
+use second::file::{current_of_numbers, first_body, write_from_bytes, Entry, ROW_LENGTH};
+use second::library::{asked, count_numbers, CountNumbers, FileLibrary, Lent, Library, PageLibrary, ZERO_COUNTS};
 use second::limits::{Refusal, CELLS};
 use second::matlink::Matlink;
 use second::page::page;
@@ -14,6 +17,7 @@ use second::proved::Proved;
 use second::random::Random;
 use second::rides::{all_rides, Ride};
 use std::hint::black_box;
+use std::ops::Range;
 use std::time::Instant;
 
 /// How many events each ride has.
@@ -117,11 +121,47 @@ fn pages(rows: usize, p: u64) {
     println!("{}", count / 23);
 }
 
+/// A name that callgrind finds.
+#[inline(never)]
+#[no_mangle]
+pub fn second_write(entries: &[u8], rows: &[u16], buffer: &mut [u8]) -> Result<usize, Refusal> {
+    write_from_bytes(entries, rows, buffer)
+}
+
+/// A name that callgrind finds.
+#[inline(never)]
+#[no_mangle]
+pub fn second_lookup(file: &[u8], horse: u32, leg: u32) -> Result<Range<usize>, Refusal> {
+    current_of_numbers(file, horse, leg)
+}
+
+/// Both files, and the last entry looked up in them: how many bytes the file has. Each horse has one save of each leg.
+fn files(count: usize, rows: u16) {
+    let entry = |i: usize| Entry { horse: (i / 6) as u16, leg: 1 + (i % 6) as u8, save: 1, rows };
+    let entries: Vec<u8> = (0..count).flat_map(|i| entry(i).to_bytes()).collect();
+    let cells = random_cells(&mut Random::new(0), count * usize::from(rows) * CELLS);
+    let length = first_body(count) + count * usize::from(rows) * ROW_LENGTH;
+    let (mut proved, mut second, mut written) = (vec![0; length], vec![0; length], 0);
+    assert_eq!(Proved.write_file(&entries, &cells, &mut proved, &mut written), 0);
+    assert_eq!(second_write(&entries, &cells, &mut second), Ok(length));
+    assert!(proved == second && written as usize == length, "both files are the same");
+    let last = entry(count.saturating_sub(1));
+    let (horse, leg, mut start, mut size) = (last.horse.into(), last.leg.into(), 0, 0);
+    Proved.look_up(&proved, horse, leg, &mut start, &mut size);
+    let place = second_lookup(&second, horse, leg).unwrap_or(0..0);
+    assert_eq!((place.start, place.len()), (start as usize, size as usize), "both found the same");
+    println!("{length}");
+}
+
 fn main() {
     let words: Vec<String> = std::env::args().skip(1).collect();
-    if let [how, rows, p] = &words[..] {
-        assert_eq!(how, "page");
-        return pages(rows.parse().expect("a count of rows"), p.parse().expect("a page"));
+    if let [how, first, then] = &words[..] {
+        let number = |word: &String| word.parse().expect("a number");
+        return match how.as_str() {
+            "page" => pages(number(first), number(then) as u64),
+            "file" => files(number(first), number(then) as u16),
+            _ => panic!("page or file"),
+        };
     }
     let rides = all_rides(LENGTH);
     let ride = words.get(1).map(|n| &rides[n.parse::<usize>().expect("a ride's place")]);

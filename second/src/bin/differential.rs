@@ -9,7 +9,7 @@ use second::proved::Proved;
 use second::report::{Outcome, Replay};
 use second::threads::Amount;
 use second::trials::{random_trials, short_trials};
-use second::{checks, frame_checks, links, page_checks, wait_checks};
+use second::{checks, file_checks, frame_checks, links, page_checks, wait_checks};
 use std::process::exit;
 use std::time::Instant;
 
@@ -81,6 +81,7 @@ fn main() {
     asked.part("readings", |a| frame_checks::readings(&Proved, &a.replay, a.amount));
     asked.part("writings", |a| frame_checks::writings(&Proved, &a.replay, a.amount, 200_000));
     asked.part("pages", |a| page_checks::pages(&Proved, &a.replay, a.amount, 10_000));
+    asked.part("files", |a| file_checks::files(&Proved, &a.replay, a.amount, 5_000));
     if asked.ran == 0 {
         usage();
     }

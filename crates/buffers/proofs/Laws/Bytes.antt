@@ -19,20 +19,20 @@ pub length-cells : (row : List ℕ) → length (cell_bytes row) ≡ 2 * length r
 length-cells [] = refl
 length-cells (c ∷ cs) = let l = length-cells cs in omega arith
 
-pub low_byte : (row : List ℕ) (k : ℕ) → k < length row → get_or (cell_bytes row) (2 * k) 0 ≡ get_or row k 0 % 256
+low_byte : (row : List ℕ) (k : ℕ) → k < length row → get_or (cell_bytes row) (2 * k) 0 ≡ get_or row k 0 % 256
 low_byte [] k h = absurd (omega arith)
 low_byte (c ∷ cs) zero h = refl
 low_byte (c ∷ cs) (suc k) h =
     ap (λ j. get_or (cell_bytes (c ∷ cs)) j 0) {x = 2 * suc k} {y = suc (suc (2 * k))} (omega arith) ∙ low_byte cs k (omega arith)
 
-pub high_byte : (row : List ℕ) (k : ℕ) → k < length row → get_or (cell_bytes row) (2 * k + 1) 0 ≡ get_or row k 0 / 256
+high_byte : (row : List ℕ) (k : ℕ) → k < length row → get_or (cell_bytes row) (2 * k + 1) 0 ≡ get_or row k 0 / 256
 high_byte [] k h = absurd (omega arith)
 high_byte (c ∷ cs) zero h = refl
 high_byte (c ∷ cs) (suc k) h =
     ap (λ j. get_or (cell_bytes (c ∷ cs)) j 0) {x = 2 * suc k + 1} {y = suc (suc (2 * k + 1))} (omega arith) ∙ high_byte cs k (omega arith)
 
 -- bytes that were read as cells, written again
-pub bytes-again : (s row : List ℕ) → length s ≡ 2 * length row → Bytes s
+bytes-again : (s row : List ℕ) → length s ≡ 2 * length row → Bytes s
     → ((k : ℕ) → k < length row → get_or row k 0 ≡ byte s (2 * k) + 256 * byte s (2 * k + 1)) → cell_bytes row ≡ s
 bytes-again s row l small cell =
     ext_get_or 0 (cell_bytes row) s (length-cells row ∙ sym l)
@@ -60,13 +60,13 @@ cells-read front cells at n a e =
     let b = number2-behind front (cell_bytes cells) (at + 2 * k) (2 * k) (omega arith) in
     omega arith))
 
--- cells that were read, written again
-pub small-take : (n : ℕ) (s : List ℕ) → Bytes s → Bytes (take n s)
+small-take : (n : ℕ) (s : List ℕ) → Bytes s → Bytes (take n s)
 small-take zero s b i = omega arith
 small-take (suc n) [] b i = b i
 small-take (suc n) (x ∷ s) b zero = b 0
 small-take (suc n) (x ∷ s) b (suc i) = small-take n s (λ j. b (suc j)) i
 
+-- cells that were read, written again
 pub cells-written : (bytes : List ℕ) (at n : ℕ) → Bytes bytes → at + 2 * n ≤ length bytes → cell_bytes (cells_at bytes at n) ≡ take (2 * n) (drop at bytes)
 cells-written bytes at n small h =
     let l = length-tab n (λ k. number2 bytes (at + 2 * k)) in

@@ -1,7 +1,7 @@
 -- Laws on `pick`, on tests and on lists of questions.
 use Prim.Native.Nat.{ℕ, ◌≤◌, ◌<◌}
 use mathlib.Core.Path.{◌≡◌, refl, sym, ◌∙◌}
-use mathlib.Core.Bool.{Bool, true, false, ◌&&◌, ◌||◌, and_assoc}
+use mathlib.Core.Bool.{Bool, true, false, not, ◌&&◌, ◌||◌, and_assoc}
 use lib.Dec.{leb}
 use borrow.Author.Tests.{leb-true, leb-false}
 use Rattle.std.specs.Int.{from_bool}
@@ -19,6 +19,11 @@ pub pick-cases : {A : Type 0} (P : A → Type 0) (b : Bool) (x y : A) → (b ≡
 unfolding pick
 pick-cases P true x y f g = f refl
 pick-cases P false x y f g = g refl
+
+pub pick-map : {A B : Type 0} (f : A → B) (b : Bool) (x y : A) → pick b (f x) (f y) ≡ f (pick b x y)
+unfolding pick
+pick-map f true x y = refl
+pick-map f false x y = refl
 
 -- a truth value as a number
 pub as-number : (b : Bool) → from_bool b ≡ pick b 1 0
@@ -78,6 +83,10 @@ pair-goes-on a b z flag e q = and-goes-on (a && b) z (sym e ∙ q) ∙ and_assoc
 
 pub pair-stops : (a b z flag : Bool) → flag ≡ (a && b) → flag ≡ false → flag ≡ (a && (b && z))
 pair-stops a b z flag e q = e ∙ and-stops (a && b) z (sym e ∙ q) ∙ and_assoc a b z
+
+pub implies : (a b : Bool) → (a ≡ true → b ≡ true) → (not a || b) ≡ true
+implies true b f = f refl
+implies false b f = refl
 
 pub or-goes-on : (a b : Bool) → a ≡ false → b ≡ (a || b)
 or-goes-on a b e = rw e

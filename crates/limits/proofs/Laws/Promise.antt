@@ -6,7 +6,7 @@ use mathlib.Core.List.{List, ◌∷◌}
 use lib.Dec.{eqb}
 use borrow.Author.Tests.{le-leb, lt-leb}
 use Rattle.limits.specs.declared.answer.Refusal.{Refusal}
-use Rattle.limits.specs.declared.answer.Refusal.TheVariants.{BadWindow, BadTimes, BadWait, Unsound, OddEvents, PartialRow, ShortAnswers, UnknownKind, BadArgument, WindowFull, NoRowLeft, IllegalCell, DataTableFull, NotOutstanding, AlreadyAcknowledged, TimerRunning, NoMessage, ReplyTableFull, SpanNotOutstanding, NothingReady, RecordFull, UnknownFrame, BadFrameLength, BadFrameWindow, BadFrameNumber, BadFrameLife, BadFrameSpan, ShortBuffer, BadInputLength, BadRecordLength, NoSuchPage, ShortPageBuffer}
+use Rattle.limits.specs.declared.answer.Refusal.TheVariants.{BadWindow, BadTimes, BadWait, Unsound, OddEvents, PartialRow, ShortAnswers, UnknownKind, BadArgument, WindowFull, NoRowLeft, IllegalCell, DataTableFull, NotOutstanding, AlreadyAcknowledged, TimerRunning, NoMessage, ReplyTableFull, SpanNotOutstanding, NothingReady, RecordFull, UnknownFrame, BadFrameLength, BadFrameWindow, BadFrameNumber, BadFrameLife, BadFrameSpan, ShortBuffer, BadInputLength, BadRecordLength, NoSuchPage, ShortPageBuffer, BadFile, SavedTwice, NoSuchLeg}
 use Rattle.std.specs.Prelude.{Result, Ok, Err}
 use Rattle.std.specs.Result.{is_ok, IsErrAnd}
 use Rattle.limits.specs.Answer.{refusal_number, number_of}
@@ -47,6 +47,9 @@ refusal-not-0 BadInputLength = refl
 refusal-not-0 BadRecordLength = refl
 refusal-not-0 NoSuchPage = refl
 refusal-not-0 ShortPageBuffer = refl
+refusal-not-0 BadFile = refl
+refusal-not-0 SavedTwice = refl
+refusal-not-0 NoSuchLeg = refl
 
 -- an answer is Ok exactly where its number is 0
 pub is_ok-number : {X : Type 0} (a : Result X Refusal) → eqb (number_of a) 0 ≡ is_ok a

@@ -1,0 +1,14 @@
+pub mod Walks
+pub mod Bodies
+pub mod Writing
+pub mod Asked
+pub mod Current
+pub mod Lookup
+pub mod Entries
+pub mod Items
+pub mod Placed
+pub mod Round
+pub mod Found
+pub mod Pressed
+pub mod Small
+pub mod Highest
