@@ -23,7 +23,7 @@ use Rattle.buffers.specs.Bytes.{Bytes, cell_bytes}
 use Rattle.buffers.proofs.Laws.Bytes.{cells-written}
 use Rattle.horsefile.specs.declared.Saved.{Saved}
 use Rattle.horsefile.specs.declared.Entry.{Entry}
-use Rattle.horsefile.specs.Layout.{count, contents, body, body_bytes, entry_at, saved_at, saved_bytes, saved_in, cells_in, file_of, file_into, size_of}
+use Rattle.horsefile.specs.Layout.{count, contents, body_bytes, entry_at, saved_at, saved_bytes, saved_in, cells_in, file_of, file_into, size_of}
 use Rattle.horsefile.specs.Rules.{legal_entry, saved_of, file_fits, saved_once, of_leg, no_entry, current, entered, file_questions, lookup_questions, write_fits, write_questions}
 use Rattle.horsefile.specs.Calls.{Handed}
 use Rattle.horsefile.specs.Meanings.{HighestSave, Kept, kept, kept_in, all_saved, under_highest, Finds, Found, Accepted, WrittenAgain, ReadAgain, Pressed, Supersedes}
@@ -122,12 +122,12 @@ module _ (entries cells : List ℕ) (room : ℕ) (small : Bytes entries) (took :
       (finds file (file-small (saved_in entries) cells saved_small few handed.cells_legal) read-again.accepted horse leg)
 
 -- The same of calls: a write that answered with n, and then a lookup in the first n bytes of the buffer that it left.
-pub calls-found : (entries cells before after : List ℕ) (n horse leg : ℕ) (looked_up : Result (Bor (List ℕ)) Refusal) → Bytes entries
+pub calls-found : (entries cells before after : List ℕ) (n horse leg : ℕ) (lent : Bor (List ℕ)) (looked_up : Result (Bor (List ℕ)) Refusal) → Bytes entries
     → WriteCall (write_questions entries cells (length before)) (writing (size_of (saved_in entries)) (file_into (saved_in entries) cells before)) (Ok n) before after
-    → Handed (lookup_questions (take n after) horse leg) looked_up (body (take n after) (current horse leg (contents (take n after))))
+    → lent.now ≡ take n after → Handed (lookup_questions lent.now horse leg) lent (current horse leg (contents lent.now)) looked_up
     → Found looked_up (kept (saved_in entries) cells) horse leg
-calls-found entries cells before after n horse leg looked_up small w h =
-    go looked_up (rw part at h)
+calls-found entries cells before after n horse leg lent looked_up small w e h =
+    go looked_up h
   where
     took : first_no (write_questions entries cells (length before)) ≡ 0
     took = sym w.answered.number
@@ -140,14 +140,13 @@ calls-found entries cells before after n horse leg looked_up small w h =
         ap₂ take w.answered.value w.left
         ∙ take_at written (drop (size_of (saved_in entries)) before) (size_of (saved_in entries)) (read-again entries cells (length before) small took).size
 
-    go : (r : Result (Bor (List ℕ)) Refusal) → Handed (lookup_questions written horse leg) r (body written (current horse leg (contents written)))
+    finds-lent : Finds lent.now (kept (saved_in entries) cells) horse leg
+    finds-lent = rw (e ∙ part) (written-found entries cells (length before) small took horse leg)
+
+    go : (r : Result (Bor (List ℕ)) Refusal) → Handed (lookup_questions lent.now horse leg) lent (current horse leg (contents lent.now)) r
         → Found r (kept (saved_in entries) cells) horse leg
-    go (Ok b) h =
-        let f = written-found entries cells (length before) small took horse leg in
-        record { answers = h.number ∙ f.answers; rows = h.value ∙ f.rows }
-    go (Err e) h =
-        let f = written-found entries cells (length before) small took horse leg in
-        record { answers = h.number ∙ f.answers; rows = tt }
+    go (Ok b) h = record { answers = h.number ∙ finds-lent.answers; rows = h.value ∙ finds-lent.rows }
+    go (Err refusal) h = record { answers = h.number ∙ finds-lent.answers; rows = tt }
 
 module _ (before after : List ℕ) (small : Bytes before) (small_after : Bytes after) (took : Accepted before) (takes : Accepted after) (k : Kept) (p : Pressed before after k) where
   -- one more among the entries

@@ -1,16 +1,18 @@
 -- What lookups in a horse's file promise.
-use Rattle.std.specs.Prelude.{ℕ, ◌≡◌, List, eqb, Result, IfOk}
+use Rattle.std.specs.Prelude.{ℕ, ◌≡◌, ◌+◌, List, eqb, Result, IfOk}
 use denote.Bor.{Bor}
 use Rattle.limits.specs.declared.answer.Refusal.{Refusal}
 use Rattle.limits.specs.Answer.{number_of}
 use Rattle.limits.specs.Questions.{pick, Question, first_no}
 use Rattle.horsefile.specs.declared.Entry.{Entry}
-use Rattle.horsefile.specs.Layout.{body_bytes}
+use Rattle.horsefile.specs.Layout.{body, body_bytes}
 
--- A call that hands back a part of a lent slice: what it answers, and what the part holds.
-pub record Handed (questions : List Question) (result : Result (Bor (List ℕ)) Refusal) (part : List ℕ) : Type 0 where
+-- A call that hands back the body of an entry as a part of the lent file: what it answers, what the part holds, and that it stands
+-- at the entry's start, counted from the file's first byte.
+pub record Handed (questions : List Question) (file : Bor (List ℕ)) (e : Entry) (result : Result (Bor (List ℕ)) Refusal) : Type 0 where
   pub number : number_of result ≡ first_no questions
-  pub value : IfOk result (λ r. r.now ≡ part)
+  pub value : IfOk result (λ r. r.now ≡ body file.now e)
+  pub stands : IfOk result (λ r. r.ref_ptr ≡ (file.ref_ptr.0, e.start + file.ref_ptr.1))
 
 -- Where a part stands, in bytes.
 pub record Place : Type 0 where

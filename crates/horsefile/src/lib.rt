@@ -71,7 +71,7 @@ pub fn find(file: &[u8], horse: u32, leg: u32) -> Result<Entry, Refusal>
 
 // The current body of a horse's leg, as a part of the file: 33, 34, 35.
 pub fn lookup(file: &[u8], horse: u32, leg: u32) -> Result<&[u8], Refusal>
-    ensures { Handed (lookup_questions file.now horse leg) result (body file.now (current horse leg (contents file.now))) }
+    ensures { Handed (lookup_questions file.now horse leg) file.entry (current horse leg (contents file.now)) result }
 {
     let entry = find(file, horse, leg)?;
     // Stays (no plainer): std has no From between u32 and usize, of which usize is the wider one here.
