@@ -6,12 +6,12 @@
  *   steps stack      bytes of stack that each function of the header takes, and the proved function behind it
  */
 #include "../../c/matlink_text.c"
+#include "stack.h"
 #include <stdio.h>
 #include <stdlib.h>
 #include <string.h>
 #include <time.h>
 
-#define NOINLINE __attribute__((noinline))
 #define LONGEST 20000
 
 static struct matlink ends;
@@ -112,20 +112,6 @@ static size_t numbers[3];
 static struct matlink_frame frame;
 static uint8_t bytes[MATLINK_DATA_FRAME_BYTES];
 static const char *volatile text;
-
-/* Where the return address stood when the function measured was called. */
-static uintptr_t entry;
-
-/* A call of it in the place of the function measured, with the same arguments, says where a call begins. */
-static NOINLINE uint8_t here(void) {
-    /* a frame address is that of the word below the return address */
-    entry = (uintptr_t)__builtin_frame_address(0) + sizeof(void *);
-    return 0;
-}
-
-/* `call` is the function measured, or `here`. It is volatile so that both are called alike, and the header's functions are not
- * inlined. */
-#define CALL(name) __typeof__(name) *volatile call = measured ? name : (__typeof__(name) *)(void (*)(void))here
 
 #define ARRAYS ends.mat_mark, ends.mat_timer, ends.mat_cell, ends.pad_mark, ends.pad_timer, ends.pad_cell, ends.data, ends.reply
 
@@ -264,26 +250,13 @@ static const struct measure measures[] = {
 static void fresh(void) {
     check(matlink_open(&ends, 8, 250, 250, 250, 1000) == 0, "the link was not opened");
     matlink_numbers(&ends, head);
+    memset(answers, 255, sizeof answers);
 }
 
-/* Bytes of stack below the return address. What is below the stack pointer is painted, and the lowest byte that changed is looked
- * for. A first call has the dynamic linker find what is called. */
-static NOINLINE size_t used(const struct measure *measure) {
-    const size_t size = 1 << 16;
-    volatile unsigned char *low;
-    size_t i, at;
-    fresh();
-    measure->call(1);
-    fresh();
-    measure->call(0);
-    memset(answers, 255, sizeof answers);
-    low = (volatile unsigned char *)entry - size;
-    for (i = 0; i < size; i++) low[i] = 0xA5;
-    measure->call(1);
-    for (i = 0; i < size && low[i] == 0xA5; i++) {
-    }
+static size_t used(const struct measure *measure) {
+    size_t size = stack_of(measure->call, fresh), at;
     for (at = 0; at < measure->answers; at++) check(answers[at] == 0, "a call or an event was refused");
-    return size - i;
+    return size;
 }
 
 static void stack(void) {

@@ -22,7 +22,7 @@ use Rattle.events.proofs.Laws.Sums.{from-none}
 use Rattle.lists.specs.Account.{account}
 use Rattle.lists.specs.Runs.{after_all}
 use Rattle.lists.proofs.Laws.Accounts.{balances}
-use Rattle.runs.specs.View.{whole_rows}
+use Rattle.limits.specs.Questions.{whole_rows}
 use Rattle.agreement.specs.Calls.{Call, run, single, Made, Line, start, following, Met, Chain, end_of, all_events}
 use Rattle.agreement.proofs.Theorem.{from-opened}
 use Rattle.agreement.specs.Balance.{Balanced, StepsBalance, RunsBalance, ChainsBalance, ChainsCount}

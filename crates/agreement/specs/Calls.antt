@@ -4,12 +4,12 @@ use Rattle.std.specs.Prelude.{ℕ, ◌*◌, List, [], ◌∷◌, ◌++◌, map, 
 use Rattle.limits.specs.declared.answer.Refusal.{Refusal}
 use Rattle.limits.specs.Answer.{number_of}
 use Rattle.limits.specs.Lists.{joined}
-use Rattle.limits.specs.Questions.{pick, first_no}
+use Rattle.limits.specs.Questions.{pick, first_no, whole_rows}
 use Rattle.limits.specs.Events.{Event, event, events}
 use Rattle.events.specs.declared.Link.{Link}
 use Rattle.events.specs.declared.Counts.{Counts}
 use Rattle.events.specs.Counts.{no_counts, risen, added}
-use Rattle.runs.specs.View.{Stepped, Ran, whole_rows, lent_questions}
+use Rattle.runs.specs.View.{Stepped, Ran, lent_questions}
 
 -- a run with its event bytes and the contents of its answer buffer, or a single event
 pub data Call : Type 0 where

@@ -1,5 +1,5 @@
 -- A link as C keeps it: a head of ten numbers, and eight arrays. A mark is a number: off for 0, on for anything else.
-use Rattle.std.specs.Prelude.{ℕ, ◌<◌, ◌≡◌, Bool, not, List, [], ◌∷◌, map, eqb, get_or}
+use Rattle.std.specs.Prelude.{ℕ, ◌<◌, ◌≡◌, Bool, not, List, [], ◌∷◌, ◌++◌, map, eqb, get_or}
 use Rattle.limits.specs.declared.Limits.{Limits}
 use Rattle.limits.specs.Questions.{pick}
 use Rattle.events.specs.declared.Link.{Link}
@@ -63,9 +63,11 @@ limits_at h =
 abbrev pub numbers_at : List ℕ → Numbers
 numbers_at h = record { oldest = get_or h 5 0; next = get_or h 6 0; wanted = get_or h 7 0; datas = get_or h 8 0; replies = get_or h 9 0 }
 
+abbrev pub limits_list : Limits → List ℕ
+limits_list l = l.window ∷ l.datalife ∷ l.replylife ∷ l.replywait ∷ l.resendwait ∷ []
+
 abbrev pub head_of : Limits → Numbers → List ℕ
-head_of l n =
-    l.window ∷ l.datalife ∷ l.replylife ∷ l.replywait ∷ l.resendwait ∷ n.oldest ∷ n.next ∷ n.wanted ∷ n.datas ∷ n.replies ∷ []
+head_of l n = limits_list l ++ (n.oldest ∷ n.next ∷ n.wanted ∷ n.datas ∷ n.replies ∷ [])
 
 -- the link of its limits, its numbers and its arrays
 abbrev pub link_of : Limits → Numbers → List Bool → List ℕ → List ℕ → List Bool → List ℕ → List ℕ → List ℕ → List ℕ → Link

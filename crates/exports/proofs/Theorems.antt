@@ -16,7 +16,8 @@ use Rattle.limits.specs.declared.answer.Refusal.{Refusal}
 use Rattle.events.specs.declared.Counts.{Counts}
 use Rattle.agreement.specs.Calls.{Line, following, Chain}
 use Rattle.clinks.specs.Links.{CLink, link_at, stored}
-use Rattle.exports.specs.Calls.{capped, asked, Leaves, CCall, CChain}
+use Rattle.clinks.specs.Asked.{capped, asked}
+use Rattle.exports.specs.Calls.{Leaves, CCall, CChain}
 use Rattle.clinks.proofs.Laws.Links.{stored_back}
 use Rattle.exports.proofs.Laws.Calls.{left-link}
 

@@ -14,25 +14,7 @@ use Rattle.agreement.specs.Calls.{Made, Line, following, Met}
 use Rattle.ride.specs.Ride.{Rode}
 use Rattle.clinks.specs.Links.{CLink, link_at, stored}
 
--- A limit is a 32-bit number here. One above 65535 is taken as 65535, which every question of a limit refuses as well.
-unfoldable pub capped : ℕ → ℕ
-capped x = pick (leb x 65535) x 65535
-
-unfoldable pub asked : ℕ → ℕ → ℕ → ℕ → ℕ → Limits
-asked window datalife replylife replywait resendwait =
-    record {
-      window = capped window;
-      datalife = capped datalife;
-      replylife = capped replylife;
-      replywait = capped replywait;
-      resendwait = capped resendwait;
-    }
-
 -- An opening stores the link that it gives: fresh, or of zeros where it is refused.
-abbrev pub limits_or_zeros : Result Limits Refusal → Limits
-limits_or_zeros (Ok l) = l
-limits_or_zeros (Err refusal) = zero_limits
-
 abbrev pub link_or_zeros : Result Link Refusal → Link
 link_or_zeros (Ok k) = k
 link_or_zeros (Err refusal) = fresh_link zero_limits

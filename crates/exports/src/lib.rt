@@ -6,7 +6,7 @@ ghost use Rattle.std.specs.Prelude.{◌≡◌};
 ghost use Rattle.limits.specs.Answer.{number_of};
 ghost use Rattle.events.specs.Counts.{risen};
 ghost use Rattle.clinks.specs.Links.{clink_of, StaysLent, numbers_fit, written};
-ghost use Rattle.exports.specs.Calls.{capped, asked, limits_or_zeros, kind_of, counts_list, OpenCall, StepCall, RunCall, RideCall};
+ghost use Rattle.exports.specs.Calls.{kind_of, counts_list, OpenCall, StepCall, RunCall, RideCall};
 
 pub mod cpage;
 
@@ -15,44 +15,13 @@ use events::{Counts, LentLink, Numbers};
 use limits::Limits;
 use limits::answer::Refusal;
 
-// A limit above 65535 is refused as 65535 is.
-fn capped_limit(x: u32) -> u16
-    ensures { result ≡ capped x }
-{
-    u16::try_from(x).unwrap_or(u16::MAX)
-}
-
-pub fn asked_limits(
-    window: u32,
-    datalife: u32,
-    replylife: u32,
-    replywait: u32,
-    resendwait: u32,
-) -> Limits
-    ensures { result ≡ asked window datalife replylife replywait resendwait }
-{
-    Limits {
-        window: usize::from(capped_limit(window)),
-        datalife: capped_limit(datalife),
-        replylife: capped_limit(replylife),
-        replywait: capped_limit(replywait),
-        resendwait: capped_limit(resendwait),
-    }
-}
-
-fn limits_or_zeros(opening: Result<Limits, Refusal>) -> Limits
-    ensures { result ≡ limits_or_zeros opening }
-{
-    opening.unwrap_or_default()
-}
-
 // Opens a link: 1, 2, 3. A refusal stores a link of zeros.
 pub fn open(link: &mut LentCLink<'_>, asked: Limits) -> u8
     ensures lent { StaysLent link.old link.new }
     ensures opened { OpenCall asked (clink_of link.new) result }
 {
     let opening = limits::accept(asked);
-    *link.head = clinks::head_of(limits_or_zeros(opening), Numbers::default());
+    *link.head = clinks::head_of(clinks::limits_or_zeros(opening), Numbers::default());
     *link.matmark = [0; 32];
     *link.mattimer = [0; 32];
     *link.matcell = [0; 512];
@@ -79,7 +48,7 @@ fn kind_byte(kind: u32, argument: u32) -> u8
 macro_rules! lend {
     ($link:expr, $marks:expr, $held:expr) => {
         LentLink {
-            limits: clinks::limits_of(*$link.head),
+            limits: clinks::limits_of(&*$link.head),
             numbers: clinks::numbers_of(*$link.head),
             marks: &mut $marks,
             mattimers: &mut *$link.mattimer,

@@ -2,7 +2,8 @@
 #![tactic(auto)]
 
 ghost use Rattle.clinks.specs.Links.{clink};
-ghost use Rattle.exports.specs.Calls.{asked, OpenCall, StepCall, RunCall, RideCall};
+ghost use Rattle.clinks.specs.Asked.{asked};
+ghost use Rattle.exports.specs.Calls.{OpenCall, StepCall, RunCall, RideCall};
 
 pub mod cfile;
 pub mod cframe;
@@ -33,7 +34,7 @@ pub extern "C" fn matlink_lent_open(
         (clink head.new matmark.new mattimer.new matcell.new
         padmark.new padtimer.new padcell.new datas.new replies.new) result }
 {
-    let asked = exports::asked_limits(window, datalife, replylife, replywait, resendwait);
+    let asked = clinks::asked_limits(window, datalife, replylife, replywait, resendwait);
     let mut link = LentCLink {
         head,
         matmark,
@@ -142,7 +143,7 @@ pub extern "C" fn matlink_lent_ride(
         «record».old «record».new answers.old answers.new counts.new result }
 {
     exports::ride(
-        exports::asked_limits(window, datalife, replylife, replywait, resendwait),
+        clinks::asked_limits(window, datalife, replylife, replywait, resendwait),
         events,
         supply,
         record,

@@ -37,6 +37,10 @@ layout_questions bytes =
 abbrev pub read_questions : List ℕ → List Question
 read_questions bytes = layout_questions bytes ++ value_questions (reading bytes)
 
+-- The buffer holds so many bytes.
+abbrev pub space_questions : ℕ → List ℕ → List Question
+space_questions size buffer = ask 28 (leb size (length buffer)) ∷ []
+
 -- Frame write: the values, then that the buffer is long enough.
 abbrev pub write_questions : Frame → List ℕ → List Question
-write_questions f buffer = value_questions f ++ (ask 28 (leb (size_of f) (length buffer)) ∷ [])
+write_questions f buffer = value_questions f ++ space_questions (size_of f) buffer

@@ -25,6 +25,8 @@ ghost use Rattle.frames.specs.Rules.{
 ghost use Rattle.buffers.specs.Buffers.{writing, WriteCall};
 ghost use Rattle.buffers.specs.Bytes.{cells_at};
 
+pub mod put;
+
 use limits::answer::Refusal;
 use limits::messages::{Data, Reply};
 use std::array;
@@ -161,29 +163,6 @@ pub fn read(bytes: &[u8]) -> Result<Frame, Refusal>
     Ok(frame)
 }
 
-// Stays (no plainer): each `as` narrows a number whose bound is proved; `try_from` would give an error that cannot be.
-fn put_data(f: &DataFrame, buffer: &mut [u8])
-    requires { (first_no (data_questions f.now) ≡ 0) × (36 ≤ length buffer.old) }
-    ensures { buffer.new ≡ data_into f.now buffer.old }
-{
-    buffer[0] = 1;
-    buffer[1] = f.life as u8;
-    buffer[2] = f.window as u8;
-    buffer[3] = f.data.number as u8;
-    buffers::cells(buffer, 4, &f.data.row);
-}
-
-fn put_reply(f: &ReplyFrame, buffer: &mut [u8])
-    requires { (first_no (reply_questions f.now) ≡ 0) × (5 ≤ length buffer.old) }
-    ensures { buffer.new ≡ reply_into f.now buffer.old }
-{
-    buffer[0] = 2;
-    buffer[1] = f.life as u8;
-    buffer[2] = f.window as u8;
-    buffer[3] = f.reply.first as u8;
-    buffer[4] = f.reply.last as u8;
-}
-
 fn size_of(frame: &Frame) -> usize
     ensures { result ≡ size_of frame.now }
 {
@@ -204,8 +183,8 @@ pub fn write(frame: &Frame, buffer: &mut [u8]) -> Result<usize, Refusal>
         return Err(Refusal::ShortBuffer);
     }
     match frame {
-        Frame::Data(f) => put_data(f, buffer),
-        Frame::Reply(f) => put_reply(f, buffer),
+        Frame::Data(f) => put::data(f, buffer),
+        Frame::Reply(f) => put::reply(f, buffer),
     }
     Ok(size)
 }

@@ -1,5 +1,5 @@
 -- Questions are put in order. The first one answered no gives the number, and 0 means done.
-use Rattle.std.specs.Prelude.{ℕ, ◌≡◌, Bool, true, false, List, [], ◌∷◌, leb, Result, IfOk, OnOk, OnErr}
+use Rattle.std.specs.Prelude.{ℕ, ◌%◌, ◌≡◌, Bool, true, false, List, [], ◌∷◌, eqb, leb, length, Result, IfOk, OnOk, OnErr}
 use Rattle.limits.specs.declared.answer.Refusal.{Refusal}
 use Rattle.limits.specs.Answer.{number_of}
 
@@ -38,3 +38,7 @@ Answer = Result (Unit {0}) Refusal
 -- time passes by d ticks
 abbrev pub time_questions : ℕ → List Question
 time_questions d = ask 9 (leb 1 d) ∷ []
+
+-- the supply is whole rows of sixteen cells
+abbrev pub whole_rows : List ℕ → List Question
+whole_rows supply = ask 6 (eqb (length supply % 16) 0) ∷ []

@@ -65,6 +65,7 @@ fn marked_sound(w: usize, oldest: usize, next: usize, marks: &[bool; 32]) -> boo
 }
 
 // In most calls no mark is set at all; then no mark needs to be looked at place by place.
+#[inline(always)]
 fn marks_sound(w: usize, oldest: usize, next: usize, marks: &[bool; 32]) -> bool
     requires { (1 ≤ w) × (w ≤ 32) × (oldest < 2 * w) × (next < 2 * w) × (distance (2 * w) oldest next ≤ w) }
     ensures { (timers cells : List ℕ) → result ≡ sound_marks w (mat_of oldest next marks.now timers cells) }
@@ -85,6 +86,8 @@ fn rows_sound(l: Limits, oldest: usize, next: usize, timers: &[u16; 32], cells: 
 
 // The numbers first: the marks and rows to look at lie by them.
 // Stays (no plainer): it takes the parts one by one, since a mat that is only looked at lends nothing.
+// Stays (speed): inlined, with `marks_sound`, into the few functions that ask it; as functions of their own they cost each call more.
+#[inline(always)]
 pub fn mat_sound(
     l: Limits,
     oldest: usize,

@@ -46,6 +46,7 @@ fn held_sound(held: &[bool; 32], cells: &[u16; 512], w: usize) -> bool
 }
 
 // In most calls no row is held at all; then no row needs to be looked at.
+#[inline(always)]
 fn cells_sound(held: &[bool; 32], cells: &[u16; 512], w: usize) -> bool
     requires { w ≤ 32 }
     ensures { IsTrue result ↔ HeldLegal w held.now cells.now }
@@ -55,6 +56,8 @@ fn cells_sound(held: &[bool; 32], cells: &[u16; 512], w: usize) -> bool
 
 // Question 4 of the pad.
 // Stays (no plainer): this and `run_length` take the parts one by one, since a pad that is only looked at lends nothing.
+// Stays (speed): as `mat_sound` of the mat, with `cells_sound`.
+#[inline(always)]
 pub fn pad_sound(
     l: Limits,
     wanted: usize,
@@ -133,6 +136,7 @@ impl LentPad<'_> {
         requires { SoundAt l (lent_pad self.old) × (sound_data l «data» ≡ true)
             × (distance (2 * l.window) self.old.wanted «data».number < l.window) }
         ensures lent { StaysLent self.old self.new }
+        ensures stays { self.new.wanted ≡ self.old.wanted }
         ensures moves { Shows l (lent_pad self.new) (holding l (pad_state l.window (lent_pad self.old)) «data») }
     {
         let at = ring::slot(l.window, data.number);
@@ -178,6 +182,7 @@ impl LentPad<'_> {
     pub fn tick(&mut self, l: Limits, d: u16)
         requires { SoundAt l (lent_pad self.old) }
         ensures lent { StaysLent self.old self.new }
+        ensures stays { self.new.wanted ≡ self.old.wanted }
         ensures untouched { (self.new.held.now ≡ self.old.held.now) × (self.new.cells.now ≡ self.old.cells.now) }
         ensures moves { Shows l (lent_pad self.new) (ticked d (pad_state l.window (lent_pad self.old))) }
     {

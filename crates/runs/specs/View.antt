@@ -2,7 +2,7 @@
 use Rattle.std.specs.Prelude.{ℕ, ◌/◌, ◌%◌, ◌≡◌, true, List, [], ◌∷◌, ◌++◌, eqb, leb, length, take, Result}
 use Rattle.limits.specs.declared.answer.Refusal.{Refusal}
 use Rattle.limits.specs.Lists.{all}
-use Rattle.limits.specs.Questions.{Question, ask, Changed}
+use Rattle.limits.specs.Questions.{Question, ask, whole_rows, Changed}
 use Rattle.limits.specs.Events.{event}
 use Rattle.events.specs.declared.Link.{Link}
 use Rattle.events.specs.declared.Counts.{Counts}
@@ -11,9 +11,6 @@ use Rattle.events.specs.Rules.{questions, acted}
 use Rattle.events.specs.Account.{counted}
 use Rattle.events.specs.View.{link_state, sound_link, LinkCall}
 use Rattle.lists.specs.View.{Run, refuses, running}
-
-abbrev pub whole_rows : List ℕ → List Question
-whole_rows supply = ask 6 (eqb (length supply % 16) 0) ∷ []
 
 -- The call for one event: 4, 6, and the event's own questions.
 abbrev pub Stepped : Link → ℕ → ℕ → List ℕ → List ℕ → List ℕ → Link → Result Counts Refusal → Type 0

@@ -8,7 +8,7 @@ use lib.Dec.{eqb, leb}
 use lib.ListN.{length, take, drop, length-drop}
 use lib.Seq.{take_at}
 use Rattle.limits.specs.Answer.{number_of}
-use Rattle.limits.specs.Questions.{pick, Question, ask, first_no}
+use Rattle.limits.specs.Questions.{pick, Question, ask, first_no, whole_rows}
 use Rattle.limits.specs.Events.{Event, event, events}
 use Rattle.limits.proofs.Laws.Choice.{pick_yes}
 use Rattle.events.specs.State.{LinkState, Moved, unmoved}
@@ -23,7 +23,7 @@ use Rattle.lists.specs.Runs.{supply_left, buffer_left, continued, next, after_al
 use Rattle.events.specs.View.{link_state, sound_link}
 use Rattle.lists.specs.Account.{account}
 use Rattle.lists.specs.View.{Run, running}
-use Rattle.runs.specs.View.{whole_rows, lent_questions}
+use Rattle.runs.specs.View.{lent_questions}
 use Rattle.agreement.specs.Calls.{Call, run, single, Made, Line, following, Met, events_of, given_by}
 use Rattle.agreement.proofs.Laws.Codes.{not4, run-not4, single-not4}
 use Rattle.agreement.proofs.Laws.Shift.{continued-unmoved, shift, shift-numbers, shift-account, length-answers}

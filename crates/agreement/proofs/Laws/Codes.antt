@@ -6,12 +6,12 @@ use mathlib.Core.List.{List, [], ◌∷◌, ◌++◌}
 use lib.Dec.{eqb}
 use Rattle.limits.specs.declared.Limits.{Limits}
 use Rattle.limits.specs.Lists.{all}
-use Rattle.limits.specs.Questions.{Question, first_no}
+use Rattle.limits.specs.Questions.{Question, first_no, whole_rows}
 use Rattle.limits.specs.Events.{Event, unknown, misfit, send, resend, arrive_data, reply, arrive_reply, lose_data, lose_reply, tick}
 use Rattle.limits.proofs.Laws.Choice.{and_left, and_right, both, pick-cases}
 use Rattle.events.specs.State.{LinkState}
 use Rattle.events.specs.Rules as link
-use Rattle.runs.specs.View.{whole_rows, lent_questions}
+use Rattle.runs.specs.View.{lent_questions}
 use Rattle.unbounded.specs.Ends.{Ends}
 use Rattle.unbounded.specs.Rules as unbounded
 use Rattle.unbounded.specs.Lists.{answers}

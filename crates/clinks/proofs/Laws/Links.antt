@@ -2,12 +2,13 @@
 use mathlib.Core.Path.{◌≡◌, refl, ap}
 use mathlib.Core.Bool.{Bool, true, false}
 use mathlib.Core.List.{List, [], ◌∷◌, map}
+use lib.ListN.{replicate}
 use Rattle.limits.specs.Questions.{pick}
 use Rattle.events.specs.declared.Link.{Link}
 use Rattle.clinks.specs.Links.{is_on, bit, link_at, stored}
 
 -- marks stored and read again
-marks-back : (m : List Bool) → map is_on (map bit m) ≡ m
+pub marks-back : (m : List Bool) → map is_on (map bit m) ≡ m
 unfolding pick
 marks-back [] = refl
 marks-back (true ∷ m) = ap (true ∷◌) (marks-back m)
@@ -23,3 +24,8 @@ stored_back k =
       datas = k.datas;
       replies = k.replies;
     }
+
+-- marks that are off
+pub bits-off : replicate 32 0 ≡ map bit (replicate 32 false)
+unfolding pick
+bits-off = refl

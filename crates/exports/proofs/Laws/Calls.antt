@@ -1,22 +1,20 @@
 -- Laws on what calls for C promise: an opening, and what a call in place leaves.
-use Prim.Native.Nat.{ℕ, ◌<◌}
-use mathlib.Core.Path.{◌≡◌, refl, sym, ◌∙◌, ap}
-use mathlib.Core.Bool.{Bool, true, false}
-use mathlib.Core.List.{List, ◌∷◌, map}
+use Prim.Native.Nat.{ℕ}
+use mathlib.Core.Path.{◌≡◌, sym, ◌∙◌, ap}
+use mathlib.Core.Bool.{true}
+use mathlib.Core.List.{List}
 use native.Mathlib.Omega.{arith}
 use lib.Dec.{eqb}
 use lib.ListN.{replicate}
 use borrow.Author.Tests.{eqb-true, eqb-false}
 use Rattle.limits.specs.declared.Limits.{Limits}
 use Rattle.std.specs.Prelude.{Result, Ok, Err}
-use Rattle.std.specs.Result.{is_ok}
 use Rattle.limits.specs.declared.answer.Refusal.{Refusal}
 use Rattle.limits.specs.Answer.{number_of}
 use Rattle.limits.specs.Limits.{limits_questions, accepted}
-use Rattle.limits.specs.Questions.{pick, Question, ask, Answered, Changed}
+use Rattle.limits.specs.Questions.{Answered}
 use Rattle.limits.proofs.Laws.Choice.{test}
-use Rattle.limits.proofs.Laws.Good.{good, accepted-sound}
-use Rattle.limits.proofs.Laws.Promise.{unsound-first, is_ok-number}
+use Rattle.limits.proofs.Laws.Good.{good}
 use Rattle.air.specs.Forms.{data_form, reply_form}
 use Rattle.air.proofs.Laws.Forms.{count-few}
 use Rattle.events.specs.declared.Link.{Link}
@@ -25,9 +23,10 @@ use Rattle.events.specs.declared.Numbers.{Numbers}
 use Rattle.events.specs.View.{sound_link}
 use Rattle.events.proofs.Laws.Parts.{parts, mat-numbers, pad-number}
 use Rattle.link.specs.View.{fresh_link}
-use Rattle.clinks.specs.Links.{CLink, clink, bit, head_of, link_at, numbers_of, numbers_fit}
-use Rattle.clinks.proofs.Laws.Links.{stored_back}
-use Rattle.exports.specs.Calls.{limits_or_zeros, OpenCall, Leaves}
+use Rattle.clinks.specs.Links.{CLink, clink, head_of, link_at, numbers_of, numbers_fit}
+use Rattle.clinks.proofs.Laws.Links.{bits-off, stored_back}
+use Rattle.clinks.specs.Asked.{limits_or_zeros}
+use Rattle.exports.specs.Calls.{OpenCall, Leaves}
 
 -- what a call leaves is the link that it gave
 pub left-link : (k : Link) (answer : Result Counts Refusal) (before after : CLink) (counts : List ℕ) (r : ℕ) → Leaves k answer before after counts r → link_at after ≡ k
@@ -43,28 +42,10 @@ small k e =
     let d = count-few data_form _ _ k.limits p.datas in let r = count-few reply_form _ _ k.limits p.replies in
     (omega arith, omega arith, omega arith, omega arith, omega arith, omega arith)
 
--- a call that puts question 4 first and was done leaves a sound link
-pub done-sound : {S V X : Type 0} (qs : List Question) (b : Bool) (r : Result X Refusal) (done : X) (shown moved : V) (sound : S → Bool) (before after : S)
-    → true ≡ is_ok r → sound before ≡ b → Changed (ask 4 b ∷ qs) r done shown moved sound before after → sound after ≡ true
-done-sound qs b r done shown moved sound before after i s c =
-    c.stays
-    (s
-    ∙ test b (λ e. e)
-    (λ e. let four : 4 ≡ 0 = unsound-first qs b e ∙ sym c.answered.number ∙ eqb-true (number_of r) 0 (is_ok-number r ∙ sym i) in absurd (omega arith)))
-
--- the window that an opening stores is small
-pub opened-small : (l : Limits) (r : Result Limits Refusal) → Answered (limits_questions l) r (accepted l) → (limits_or_zeros r).window < 65536
-opened-small l (Ok m) c = let g = good (accepted l) (accepted-sound l (sym c.number)) in rw c.value (let h = g.window-high in omega arith)
-opened-small l (Err refusal) c = omega arith
-
 -- what `Numbers::default` gives
 pub no_numbers : (n : Numbers) → (n.oldest ≡ 0) × ((n.next ≡ 0) × ((n.wanted ≡ 0) × ((n.datas ≡ 0) × (n.replies ≡ 0))))
     → n ≡ record { oldest = 0; next = 0; wanted = 0; datas = 0; replies = 0 }
 no_numbers n e = λ i. record { oldest = e.0 i; next = e.1.0 i; wanted = e.1.1.0 i; datas = e.1.1.1.0 i; replies = e.1.1.1.1 i }
-
-bits-off : replicate 32 0 ≡ map bit (replicate 32 false)
-unfolding pick
-bits-off = refl
 
 -- what an opening stores
 pub opened : (asked l : Limits) (a : Result Limits Refusal) (head : List ℕ) (r : ℕ) → Answered (limits_questions asked) a (accepted asked)

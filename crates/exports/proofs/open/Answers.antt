@@ -2,7 +2,8 @@ use mathlib.Core.Path.{◌∙◌, ap}
 use native.Mathlib.Omega.{arith}
 use Rattle.events.specs.declared.Numbers.{Numbers}
 use Rattle.clinks.specs.Links.{head_of}
-use Rattle.exports.proofs.Laws.Calls.{opened-small, opened, no_numbers}
+use Rattle.clinks.proofs.Laws.Asked.{opened-small}
+use Rattle.exports.proofs.Laws.Calls.{opened, no_numbers}
 use Rattle.exports.proofs.open.Goals as goal
 
 pub head_of-link-requires : goal.head_of-link-requires

@@ -1,6 +1,7 @@
 use mathlib.Core.Path.{refl}
 use Rattle.events.specs.Lent.{lent_link}
-use Rattle.exports.proofs.Laws.Calls.{small, done-sound}
+use Rattle.clinks.proofs.Laws.Done.{done-sound}
+use Rattle.exports.proofs.Laws.Calls.{small}
 use Rattle.exports.proofs.run.Goals as goal
 
 pub write_back-requires : goal.write_back-requires

@@ -19,9 +19,9 @@ returns-then-buffer-size c = write-refused _ _ _ _ _ (write-fails _ _ c.in_ok-va
 pub returns-in-Data : goal.returns-in-Data
 returns-in-Data c =
     write-done _ _ _ _ _ (write-passes _ _ c.in_ok-value_answer.ensures (omega arith)) c.size_of-size.ensures
-    (c.put_data.ensures ∙ sym (ap (λ f. frame_into f c.args.buffer.now) c.in-Data.is))
+    (c.data.ensures ∙ sym (ap (λ f. frame_into f c.args.buffer.now) c.in-Data.is))
 
 pub returns-in-Reply : goal.returns-in-Reply
 returns-in-Reply c =
     write-done _ _ _ _ _ (write-passes _ _ c.in_ok-value_answer.ensures (omega arith)) c.size_of-size.ensures
-    (c.put_reply.ensures ∙ sym (ap (λ f. frame_into f c.args.buffer.now) c.in-Reply.is))
+    (c.reply.ensures ∙ sym (ap (λ f. frame_into f c.args.buffer.now) c.in-Reply.is))

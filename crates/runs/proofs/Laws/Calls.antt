@@ -11,7 +11,7 @@ use Rattle.limits.specs.declared.answer.Refusal.TheVariants.{Unsound, PartialRow
 use Rattle.std.specs.Prelude.{Result, Ok, Err}
 use Rattle.std.specs.Result.{IsErrAnd}
 use Rattle.limits.specs.Answer.{refusal_number}
-use Rattle.limits.specs.Questions.{pick, Question, ask, first_no}
+use Rattle.limits.specs.Questions.{pick, Question, ask, first_no, whole_rows}
 use Rattle.limits.specs.Lists.{all}
 use Rattle.limits.specs.Events.{event}
 use Rattle.limits.proofs.Laws.Choice.{pick_yes, pick_no}
@@ -23,7 +23,7 @@ use Rattle.events.specs.Counts.{no_counts, risen}
 use Rattle.events.specs.Rules.{questions}
 use Rattle.events.specs.View.{link_state, sound_link, Counted}
 use Rattle.lists.specs.View.{Run, refuses, running}
-use Rattle.runs.specs.View.{Stepped, RunCall, Ran, whole_rows, lent_asks, lent_questions}
+use Rattle.runs.specs.View.{Stepped, RunCall, Ran, lent_asks, lent_questions}
 use Rattle.events.proofs.Laws.Ends.{refused, call-as}
 use Rattle.events.proofs.Laws.Counting.{counted-done, counted-refused}
 

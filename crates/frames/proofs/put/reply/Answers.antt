@@ -2,7 +2,7 @@ use lib.ListN.{length-set}
 use Rattle.frames.proofs.Laws.Writing.{reply-put}
 use Rattle.frames.proofs.Laws.Values.{reply-fits}
 use native.Mathlib.Omega.{arith}
-use Rattle.frames.proofs.put_reply.Goals as goal
+use Rattle.frames.proofs.put.reply.Goals as goal
 
 pub overflow_cast-buffer : goal.overflow_cast-buffer
 overflow_cast-buffer c = let f = reply-fits c.args.f.now c.requires.0 in omega arith

@@ -1,7 +1,7 @@
 use Rattle.std.proofs.Common.{rules}
 use Rattle.limits.specs.Questions.{pick}
-use Rattle.exports.specs.Calls.{capped}
-use Rattle.exports.proofs.capped_limit.Goals as goal
+use Rattle.clinks.specs.Asked.{capped}
+use Rattle.clinks.proofs.capped.Goals as goal
 
 pub returns : goal.returns
 unfolding capped pick

@@ -5,7 +5,7 @@ use Rattle.std.proofs.Common.{rules}
 use Rattle.buffers.proofs.Laws.Bytes.{length-cells}
 use Rattle.frames.proofs.Laws.Writing.{data-put}
 use Rattle.frames.proofs.Laws.Values.{data-fits}
-use Rattle.frames.proofs.put_data.Goals as goal
+use Rattle.frames.proofs.put.data.Goals as goal
 
 pub overflow_cast-buffer : goal.overflow_cast-buffer
 overflow_cast-buffer c = let f = data-fits c.args.f.now c.requires.0 in omega arith
