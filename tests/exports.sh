@@ -47,12 +47,12 @@ END
 for standard in c99 c11 c++11; do
     # the texts include the header and nothing else, so it is whole in itself
     compile "$standard" c/matlink_text.c
-    for file in c/example.c tests/exports.c tests/exports_bytes.c; do
+    for file in c/example.c tests/exports.c tests/exports_bytes.c tests/exports_devices.c; do
         compile "$standard" "$file"
         build "$standard" "$(basename "$file" .c)"
     done
     timeout 10 "$here/example" | diff "$here/example.expected" - || { echo "$standard: the example printed something else"; exit 1; }
-    for program in exports exports_bytes; do
+    for program in exports exports_bytes exports_devices; do
         timeout 10 "$here/$program" | diff "tests/$program.expected" - || { echo "$standard: a call did something else"; exit 1; }
     done
 done

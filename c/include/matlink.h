@@ -86,7 +86,7 @@ enum matlink_answer {
     MATLINK_BAD_WINDOW = 1,            /* is the window 1 to 32? */
     MATLINK_BAD_TIMES = 2,             /* are data life, reply life and reply wait 1 to 250? */
     MATLINK_BAD_WAIT = 3,              /* is the resend wait 0, or from the sum of the three times less 2 to 1000? */
-    MATLINK_UNSOUND = 4,               /* is the link sound? struct matlink says when it is */
+    MATLINK_UNSOUND = 4,               /* is the link, the mat or the pad sound? its struct says when it is */
     MATLINK_ODD_EVENTS = 5,            /* is the count of event bytes even? */
     MATLINK_PARTIAL_ROW = 6,           /* is the count of the supply's cells a multiple of 16? */
     MATLINK_SHORT_ANSWERS = 7,         /* is there an answer byte for each event? */
@@ -101,12 +101,12 @@ enum matlink_answer {
     MATLINK_TIMER_RUNNING = 16,        /* resend: is the row's resend timer 0? */
     MATLINK_NO_MESSAGE = 17,           /* arrival, loss: has the table more than p messages? */
     MATLINK_REPLY_TABLE_FULL = 18,     /* reply, arrival of an old row: are fewer than 32 replies in the air? */
-    MATLINK_SPAN_NOT_OUTSTANDING = 19, /* arrival of a reply: are all its rows outstanding? */
+    MATLINK_SPAN_NOT_OUTSTANDING = 19, /* reply that arrives: are all its rows outstanding? */
     MATLINK_NOTHING_READY = 20,        /* reply: is the row wanted held, with a reply timer above 0? */
     MATLINK_RECORD_FULL = 21,          /* reply: has the record space for all the rows that are ready? */
-    MATLINK_UNKNOWN_FRAME = 22,        /* frame: is its kind 1 or 2? */
+    MATLINK_UNKNOWN_FRAME = 22,        /* frame: is its kind 1 or 2? received: is it that of the other end? */
     MATLINK_BAD_FRAME_LENGTH = 23,     /* frame that is read: is its length that of its kind? */
-    MATLINK_BAD_FRAME_WINDOW = 24,     /* frame: is its window 1 to 32? */
+    MATLINK_BAD_FRAME_WINDOW = 24,     /* frame: is its window 1 to 32? received: is it that of the device? */
     MATLINK_BAD_FRAME_NUMBER = 25,     /* frame: are its numbers below twice its window? */
     MATLINK_BAD_FRAME_LIFE = 26,       /* frame: is its life 1 to 250? */
     MATLINK_BAD_FRAME_SPAN = 27,       /* reply frame: does it cover at most w rows? */

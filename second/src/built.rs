@@ -3,135 +3,10 @@
 //! A link is changed in place; a refused call leaves it, the record and the answers as they were.
 
 pub use crate::air::{Account, Data, Reply, Table};
-use crate::limits::{ask, legal, number, Limits, Refusal, Row, CELLS, LARGEST_WINDOW, TABLE_PLACES};
-
-/// Steps on the ring of 2w sequence numbers. Numbers and steps stay below 2w, so one comparison replaces the remainder.
-#[derive(Clone, Copy)]
-struct Ring {
-    window: u8,
-}
-
-impl Ring {
-    /// For limits that are sound: the window then fits a byte.
-    #[inline]
-    fn of(limits: &Limits) -> Ring {
-        Ring { window: limits.window as u8 }
-    }
-
-    /// (to − from) mod 2w.
-    #[inline]
-    fn distance(self, from: u8, to: u8) -> u8 {
-        if from <= to {
-            to - from
-        } else {
-            to + 2 * self.window - from
-        }
-    }
-
-    /// (from + by) mod 2w.
-    #[inline]
-    fn after(self, from: u8, by: u8) -> u8 {
-        let to = from + by;
-        if to < 2 * self.window {
-            to
-        } else {
-            to - 2 * self.window
-        }
-    }
-
-    /// Number m uses place m mod w.
-    #[inline]
-    fn place(self, number: u8) -> usize {
-        usize::from(if number < self.window { number } else { number - self.window })
-    }
-
-    fn has(self, number: u8) -> bool {
-        number < 2 * self.window
-    }
-}
-
-/// The sender. What stands at places from w on means nothing.
-#[derive(Clone, Debug, Default, PartialEq, Eq, Hash)]
-pub struct Mat {
-    /// The first unacknowledged number (na), modulo 2w.
-    pub oldest: u8,
-    /// The number to be sent (ns), modulo 2w.
-    pub next: u8,
-    /// The rows kept for retransmission, by place.
-    pub rows: [Row; LARGEST_WINDOW],
-    /// Acknowledged marks (ackd), by place. Off for every row that is not outstanding.
-    pub marked: [bool; LARGEST_WINDOW],
-    /// Retransmission timers (tms), by place. An acknowledgment does not stop them.
-    pub timers: [u16; LARGEST_WINDOW],
-}
-
-impl Mat {
-    #[inline]
-    fn outstanding(&self, ring: Ring) -> u8 {
-        ring.distance(self.oldest, self.next)
-    }
-
-    fn sound(&self, limits: &Limits) -> bool {
-        let ring = Ring::of(limits);
-        if !(ring.has(self.oldest) && ring.has(self.next)) {
-            return false;
-        }
-        let outstanding = self.outstanding(ring);
-        outstanding <= ring.window
-            && !self.marked[ring.place(self.oldest)]
-            && self.timers[..limits.window].iter().all(|timer| *timer <= limits.resend_wait)
-            && (0..ring.window).all(|k| {
-                let place = ring.place(ring.after(self.oldest, k));
-                if k < outstanding {
-                    legal(&self.rows[place])
-                } else {
-                    !self.marked[place]
-                }
-            })
-    }
-}
-
-/// The receiver. What stands at places from w on means nothing, nor do rows and timers of places not held.
-#[derive(Clone, Debug, Default, PartialEq, Eq, Hash)]
-pub struct Pad {
-    /// The first number not recorded (nr), modulo 2w.
-    pub wanted: u8,
-    /// The rows held until those before them have come, by place.
-    pub rows: [Row; LARGEST_WINDOW],
-    /// Held marks (rcvd), by place.
-    pub held: [bool; LARGEST_WINDOW],
-    /// Reply timers (tmr), by place: above 0, the row may be acknowledged.
-    pub timers: [u16; LARGEST_WINDOW],
-}
-
-impl Pad {
-    /// How many rows from wanted on one reply may cover.
-    #[inline]
-    fn run_length(&self, ring: Ring) -> u8 {
-        let mut length = 0;
-        while length < ring.window {
-            let place = ring.place(ring.after(self.wanted, length));
-            if !self.held[place] || self.timers[place] == 0 {
-                break;
-            }
-            length += 1;
-        }
-        length
-    }
-
-    fn sound(&self, limits: &Limits) -> bool {
-        Ring::of(limits).has(self.wanted)
-            && (0..limits.window)
-                .all(|place| self.timers[place] <= limits.reply_wait && (!self.held[place] || legal(&self.rows[place])))
-    }
-}
-
-/// Timers stop at 0. Those of all places fall, also where they mean nothing, as a loop of fixed length is the faster one.
-fn fall(timers: &mut [u16; LARGEST_WINDOW], d: u16) {
-    for timer in timers {
-        *timer = timer.saturating_sub(d);
-    }
-}
+use crate::limits::{ask, legal, number, Limits, Refusal, CELLS, TABLE_PLACES};
+pub use crate::mat::Mat;
+pub use crate::pad::Pad;
+use crate::ring::Ring;
 
 /// By how much next, oldest and wanted rose in a call, and what became of the messages in the air.
 #[derive(Clone, Copy, Debug, Default, PartialEq, Eq, Hash)]
@@ -273,106 +148,64 @@ impl Link {
     }
 
     fn send(&mut self, supply: &[u16], counts: &mut Counts) -> Result<(), Refusal> {
-        let ring = Ring::of(&self.limits);
-        ask(self.mat.outstanding(ring) < ring.window, Refusal::WindowFull)?;
-        let row: &Row = supply.first_chunk().ok_or(Refusal::SupplyEmpty)?;
-        ask(legal(row), Refusal::IllegalCell)?;
+        let row = self.mat.row_to_send(&self.limits, supply)?;
         ask(self.data.has_place(), Refusal::DataTableFull)?;
         let sent = self.mat.next;
-        self.mat.rows[ring.place(sent)] = *row;
-        self.mat.next = ring.after(sent, 1);
-        self.transmit(ring, sent, counts);
+        self.mat.keep(&self.limits, row);
+        self.transmit(sent, counts);
         counts.sent += 1;
         Ok(())
     }
 
     fn resend(&mut self, k: u8, counts: &mut Counts) -> Result<(), Refusal> {
-        let ring = Ring::of(&self.limits);
-        ask(k < self.mat.outstanding(ring), Refusal::NotOutstanding)?;
-        let sent = ring.after(self.mat.oldest, k);
-        ask(!self.mat.marked[ring.place(sent)], Refusal::Acknowledged)?;
-        ask(self.mat.timers[ring.place(sent)] == 0, Refusal::TimerRuns)?;
+        let sent = self.mat.number_to_resend(&self.limits, usize::from(k))?;
         ask(self.data.has_place(), Refusal::DataTableFull)?;
-        self.transmit(ring, sent, counts);
+        self.transmit(sent, counts);
         Ok(())
     }
 
     /// Puts a kept row in the air and starts its retransmission timer, at each sending.
     #[inline]
-    fn transmit(&mut self, ring: Ring, number: u8, counts: &mut Counts) {
-        let place = ring.place(number);
-        self.mat.timers[place] = self.limits.resend_wait;
-        let message = Data { number, life: self.limits.data_life, row: self.mat.rows[place] };
+    fn transmit(&mut self, number: u8, counts: &mut Counts) {
+        self.mat.start_timer(&self.limits, number);
+        let message = Data { number, life: self.limits.data_life, row: *self.mat.kept(&self.limits, number) };
         self.data.put(message, &mut counts.data);
     }
 
-    /// A row below wanted is acknowledged again at once; any other is held, and its reply timer starts at each arrival.
+    /// A row below wanted is acknowledged again at once; any other is held.
     fn arrive_data(&mut self, p: u8, counts: &mut Counts) -> Result<(), Refusal> {
-        let ring = Ring::of(&self.limits);
         let message = self.data.at(p)?;
         let v = message.number;
-        if ring.distance(self.pad.wanted, v) < ring.window {
-            let place = ring.place(v);
-            self.pad.rows[place] = message.row;
-            self.pad.held[place] = true;
-            self.pad.timers[place] = self.limits.reply_wait;
-        } else {
+        if self.pad.is_old(&self.limits, v) {
             ask(self.replies.has_place(), Refusal::ReplyTableFull)?;
             self.replies.put(Reply { first: v, last: v, life: self.limits.reply_life }, &mut counts.replies);
+        } else {
+            self.pad.hold(&self.limits, v, &message.row);
         }
         self.data.arrive(p, &mut counts.data);
         Ok(())
     }
 
     fn reply(&mut self, record: &mut [u16], counts: &mut Counts) -> Result<(), Refusal> {
-        let ring = Ring::of(&self.limits);
-        let length = self.pad.run_length(ring);
-        ask(length > 0, Refusal::NothingToReply)?;
-        let space = record.get_mut(..usize::from(length) * CELLS).ok_or(Refusal::RecordShort)?;
+        let run = self.pad.run_to_reply(&self.limits, record)?;
         ask(self.replies.has_place(), Refusal::ReplyTableFull)?;
-        let first = self.pad.wanted;
-        for (k, row) in (0..length).zip(space.chunks_exact_mut(CELLS)) {
-            let place = ring.place(ring.after(first, k));
-            row.copy_from_slice(&self.pad.rows[place]);
-            self.pad.held[place] = false;
-        }
-        self.pad.wanted = ring.after(first, length);
-        let reply = Reply { first, last: ring.after(first, length - 1), life: self.limits.reply_life };
+        self.pad.record(&self.limits, run, record);
+        let reply = Reply { first: run.first, last: run.last, life: self.limits.reply_life };
         self.replies.put(reply, &mut counts.replies);
-        counts.recorded += usize::from(length);
+        counts.recorded += usize::from(run.length);
         Ok(())
     }
 
-    /// The span is marked wherever it lies in the window. A passed row's mark goes, as its place is used again.
     fn arrive_reply(&mut self, p: u8, counts: &mut Counts) -> Result<(), Refusal> {
-        let ring = Ring::of(&self.limits);
         let &Reply { first, last, .. } = self.replies.at(p)?;
-        let outstanding = self.mat.outstanding(ring);
-        let from = ring.distance(self.mat.oldest, first);
-        let span = ring.distance(first, last) + 1;
-        ask(from + span <= outstanding, Refusal::SpanNotOutstanding)?;
+        counts.acknowledged += usize::from(self.mat.acknowledge(&self.limits, first, last)?);
         self.replies.arrive(p, &mut counts.replies);
-        let mat = &mut self.mat;
-        for k in from..from + span {
-            mat.marked[ring.place(ring.after(mat.oldest, k))] = true;
-        }
-        let mut passed = 0;
-        while passed < outstanding {
-            let marked = &mut mat.marked[ring.place(ring.after(mat.oldest, passed))];
-            if !*marked {
-                break;
-            }
-            *marked = false;
-            passed += 1;
-        }
-        mat.oldest = ring.after(mat.oldest, passed);
-        counts.acknowledged += usize::from(passed);
         Ok(())
     }
 
     fn tick(&mut self, d: u16, counts: &mut Counts) {
-        fall(&mut self.mat.timers, d);
-        fall(&mut self.pad.timers, d);
+        self.mat.tick(d);
+        self.pad.tick(d);
         self.data.tick(d, &mut counts.data);
         self.replies.tick(d, &mut counts.replies);
     }

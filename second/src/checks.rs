@@ -95,8 +95,8 @@ fn zero_difference(library: &dyn Library, limits: Limits) -> Difference {
     Some(format!("opening with {limits:?} is not that with the least wait\n{found}"))
 }
 
-/// Limits at and beyond every edge, each with an opening, a call for one event, a run and a ride.
-pub fn openings(library: &dyn Library, replay: &Replay, amount: Amount) -> Outcome {
+/// Limits at and beyond every edge, and random ones.
+pub(crate) fn edge_limits(amount: Amount) -> Vec<Limits> {
     let mut limits = vec![];
     for window in (0..=34).chain([255, 256, 65_536, usize::MAX]) {
         for time in [0, 1, 250, 251, 65_535] {
@@ -115,6 +115,12 @@ pub fn openings(library: &dyn Library, replay: &Replay, amount: Amount) -> Outco
         }
         limits.push(drawn);
     }
+    limits
+}
+
+/// Limits at and beyond every edge, each with an opening, a call for one event, a run and a ride.
+pub fn openings(library: &dyn Library, replay: &Replay, amount: Amount) -> Outcome {
+    let limits = edge_limits(amount);
     let (count, mut opened, mut zeros) = (limits.len(), 0, 0);
     for limits in limits {
         let calls = vec![Call::One { kind: 1, argument: 0 }, Call::Run { events: vec![3, 0, 4, 0], answers: 2 }];

@@ -136,7 +136,7 @@ impl Matlink {
 }
 
 /// Arrays laid out one behind the other, each cell or number widened.
-fn flat<const N: usize>(words: impl Iterator<Item = u16>) -> [u16; N] {
+pub(crate) fn flat<const N: usize>(words: impl Iterator<Item = u16>) -> [u16; N] {
     let words: Vec<u16> = words.collect();
     words.try_into().expect("as many as there are")
 }
@@ -180,12 +180,12 @@ impl From<&Link> for Matlink {
 
 /// A sequence number. A byte holds every number that question 4 lets pass, and 255 stands for the others.
 #[inline]
-fn ring(number: u16) -> u8 {
+pub(crate) fn ring(number: u16) -> u8 {
     number.min(255) as u8
 }
 
 /// The rows of an array of cells.
-fn rows(cells: &[u16; LARGEST_WINDOW * CELLS]) -> [Row; LARGEST_WINDOW] {
+pub(crate) fn rows(cells: &[u16; LARGEST_WINDOW * CELLS]) -> [Row; LARGEST_WINDOW] {
     std::array::from_fn(|place| cells.as_chunks().0[place])
 }
 
@@ -229,24 +229,35 @@ impl From<&Matlink> for Link {
     }
 }
 
-/// A sound link with zeros in place of what is free: what stands beyond w or a table's count, the cells of rows neither
-/// outstanding nor held, and the reply timers of rows not held.
-pub fn without_free(link: &Link) -> Link {
-    let mut link = link.clone();
-    let w = link.limits.window;
-    let outstanding = (usize::from(link.mat.next) + 2 * w - usize::from(link.mat.oldest)) % (2 * w);
+/// Zeros in place of what is free in a mat: what stands beyond w, and the cells of rows not outstanding.
+pub fn mat_without_free(limits: &Limits, mat: &mut Mat) {
+    let (w, oldest) = (limits.window, usize::from(mat.oldest));
+    let outstanding = (usize::from(mat.next) + 2 * w - oldest) % (2 * w);
     for place in 0..LARGEST_WINDOW {
-        let step = (place + 2 * w - usize::from(link.mat.oldest)) % w;
+        let step = (place + 2 * w - oldest) % w;
         if place >= w {
-            (link.mat.marked[place], link.mat.timers[place]) = (false, 0);
+            (mat.marked[place], mat.timers[place]) = (false, 0);
         }
         if place >= w || step >= outstanding {
-            link.mat.rows[place] = [0; CELLS];
-        }
-        if place >= w || !link.pad.held[place] {
-            (link.pad.held[place], link.pad.timers[place], link.pad.rows[place]) = (false, 0, [0; CELLS]);
+            mat.rows[place] = [0; CELLS];
         }
     }
+}
+
+/// Zeros in place of what is free in a pad: what stands beyond w, and the cells and timers of rows not held.
+pub fn pad_without_free(limits: &Limits, pad: &mut Pad) {
+    for place in 0..LARGEST_WINDOW {
+        if place >= limits.window || !pad.held[place] {
+            (pad.held[place], pad.timers[place], pad.rows[place]) = (false, 0, [0; CELLS]);
+        }
+    }
+}
+
+/// A sound link with zeros in place of what is free: in the mat, in the pad, and what stands beyond a table's count.
+pub fn without_free(link: &Link) -> Link {
+    let mut link = link.clone();
+    mat_without_free(&link.limits, &mut link.mat);
+    pad_without_free(&link.limits, &mut link.pad);
     let (data, replies) = (link.data.count, link.replies.count);
     link.data.messages[data..].fill(Data::default());
     link.replies.messages[replies..].fill(Reply::default());

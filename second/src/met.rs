@@ -163,7 +163,7 @@ impl fmt::Display for Lists {
 }
 
 /// How often each answer came.
-type Answers = [u64; 32];
+pub(crate) type Answers = [u64; 32];
 
 /// How often each kind had each answer, a run had each, how many links had each edge, and how many sound ones had torn cells.
 #[derive(Clone, Default)]
@@ -238,7 +238,7 @@ fn add(sum: &mut [u64], more: &[u64]) {
 }
 
 /// Whether the answers that came are those that can come.
-fn reached(answers: &Answers, reachable: &[u8], enough: bool) -> Result<(), String> {
+pub(crate) fn reached(answers: &Answers, reachable: &[u8], enough: bool) -> Result<(), String> {
     for (answer, times) in (0u8..).zip(answers) {
         let can = reachable.contains(&answer);
         if *times > 0 && !can {
@@ -252,7 +252,7 @@ fn reached(answers: &Answers, reachable: &[u8], enough: bool) -> Result<(), Stri
 }
 
 /// The answers that came, each with how often.
-fn counts(answers: &Answers) -> String {
+pub(crate) fn counts(answers: &Answers) -> String {
     let came = |(answer, times): (usize, &u64)| (*times > 0).then(|| format!("{answer}: {times}"));
     answers.iter().enumerate().filter_map(came).collect::<Vec<_>>().join(", ")
 }

@@ -1,6 +1,7 @@
 //! Numbers that look random and are the same at every run.
 
 /// Marsaglia's xorshift on 64 bits.
+#[derive(Clone)]
 pub struct Random(u64);
 
 impl Random {

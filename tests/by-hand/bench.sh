@@ -12,6 +12,8 @@ RUSTFLAGS="-L native=$PWD/target/staticlib -C metadata=$sum" CARGO_TARGET_DIR=se
 bench=second/target/proved/release/bench
 steps=$out/steps
 cc -std=gnu11 -Wall -Wextra -O2 -I c/include -o "$steps" tests/by-hand/steps.c "$library"
+devices=$out/devices
+cc -std=gnu11 -Wall -Wextra -O2 -I c/include -o "$devices" tests/by-hand/devices.c "$library"
 
 # instructions FUNCTION COMMAND..: what callgrind counts within the function
 instructions() {
@@ -70,6 +72,7 @@ echo
 echo '| function | bytes of stack |'
 echo '|---|---|'
 "$steps" stack | sed 's/\(.*\)\t\(.*\)/| \1 | \2 |/'
+"$devices" stack | sed 's/\(.*\)\t\(.*\)/| \1 | \2 |/'
 
 # code FUNCTION..: bytes of code and of constants, with all that they call inside the library
 code() {
@@ -84,6 +87,13 @@ for name in open step run; do echo "| matlink_lent_$name | $(code "matlink_lent_
 echo "| these three together | $(code matlink_lent_open matlink_lent_step matlink_lent_run) |"
 for name in page file_lookup file_write; do echo "| matlink_$name | $(code "matlink_$name") |"; done
 echo "| all nine | $(code matlink_lent_{open,step,run,ride,read_frame,write_frame} matlink_{page,file_lookup,file_write}) |"
+echo "| a mat by itself, its five calls | $(code matlink_lent_mat_{open,send,resend,receive,tick}) |"
+echo "| a pad by itself, its four calls | $(code matlink_lent_pad_{open,receive,reply,tick}) |"
+
+echo
+echo '| bytes of a mat | of a pad |'
+echo '|---|---|'
+"$devices" size | sed 's/\(.*\)\t\(.*\)/| \1 | \2 |/'
 
 beside=$out/beside
 cc -std=gnu11 -Wall -Wextra -pedantic -O2 -I c/include -o "$beside" tests/by-hand/beside.c "$library"

@@ -1,10 +1,10 @@
-/* Rows taken from the supply to the record and back to acknowledged, in the four ways that docs/BENCHMARK.md sets beside other
+/* Rows taken from the supply to the record and back to acknowledged, in the five ways that docs/BENCHMARK.md sets beside other
  * links. bench.sh says what it prints.
  *
  *   beside list            the ways: number, name, rows
  *   beside way N BATCH W   takes all rows in way N, so many in a batch, over a link of window W; the work stands in all_rows
  */
-#include "matlink.h"
+#include "matlink_devices.h"
 #include <stdio.h>
 #include <stdlib.h>
 #include <string.h>
@@ -15,6 +15,8 @@
 #define FRAME 36 /* bytes of the longer kind */
 
 static struct matlink ends;
+static struct matlink_mat mat;
+static struct matlink_pad pad;
 static struct matlink_counts total;
 /* Longer than needed: a single event is always lent a row and space for 32. */
 static uint16_t supply[(ROWS + 1) * 16], record[(ROWS + 32) * 16];
@@ -49,6 +51,8 @@ static void begin(uint32_t window, size_t batch) {
     }
     memset(answers, 255, sizeof answers);
     check(matlink_open(&ends, window, 250, 250, 250, 1000) == 0, "the link was not opened");
+    check(matlink_mat_open(&mat, window, 250, 250, 250, 1000) == 0, "the mat was not opened");
+    check(matlink_pad_open(&pad, window, 250, 250, 250, 1000) == 0, "the pad was not opened");
 }
 
 static inline void count(struct matlink_counts *sum, const struct matlink_counts *rise) {
@@ -137,17 +141,40 @@ static uint8_t events_and_frames(size_t batch) {
     return refused;
 }
 
+/* Nothing but their frames goes between the two devices. */
+static uint8_t two_devices(size_t batch) {
+    static uint8_t data[32][MATLINK_DATA_FRAME_BYTES], reply[MATLINK_REPLY_FRAME_BYTES];
+    struct matlink_counts sum = {0};
+    uint64_t length, rows, acknowledged;
+    uint8_t refused = 0;
+    size_t row, at;
+    for (row = 0; row < ROWS; row += batch) {
+        for (at = 0; at < batch; at++)
+            refused |= matlink_mat_send(&mat, supply + 16 * (row + at), 16, data[at], sizeof data[at], &length);
+        for (at = 0; at < batch; at++)
+            refused |= matlink_pad_receive(&pad, data[at], sizeof data[at], reply, sizeof reply, &length);
+        refused |= matlink_pad_reply(&pad, record + 16 * sum.recorded, 32 * 16, reply, sizeof reply, &rows, &length);
+        refused |= matlink_mat_receive(&mat, reply, sizeof reply, &acknowledged);
+        sum.sent += batch;
+        sum.recorded += rows;
+        sum.acknowledged += acknowledged;
+    }
+    total = sum;
+    return refused;
+}
+
 struct way {
     const char *name;
     uint8_t (*rows)(size_t batch);
-    int frames;
+    int frames, link;
 };
 
 static const struct way ways[] = {
-    {"one long run", one_run, 0},
-    {"one run a batch", run_a_batch, 0},
-    {"single events", single_events, 0},
-    {"single events, frames written and read", events_and_frames, 1},
+    {"one long run", one_run, 0, 1},
+    {"one run a batch", run_a_batch, 0, 1},
+    {"single events", single_events, 0, 1},
+    {"single events, frames written and read", events_and_frames, 1, 1},
+    {"a mat and a pad by themselves, frames between them", two_devices, 0, 0},
 };
 
 #define WAYS (sizeof ways / sizeof ways[0])
@@ -163,10 +190,11 @@ static NOINLINE void all_rows(uint8_t (*rows)(size_t), size_t batch) {
 static void finish(const struct way *way, size_t batch) {
     size_t i;
     check(refused_any == 0, "a call was refused");
-    for (i = 0; i < event_count; i++) check(answers[i] == 0, "an event was refused");
+    for (i = 0; way->link && i < event_count; i++) check(answers[i] == 0, "an event was refused");
     check(total.sent == ROWS && total.recorded == ROWS && total.acknowledged == ROWS, "the counts are not all rows");
     check(memcmp(record, supply, ROWS * 16 * sizeof record[0]) == 0, "the record is not the supply");
     check(ends.data_count == 0 && ends.reply_count == 0 && ends.oldest == ends.next && ends.wanted == ends.next, "a rest is left");
+    check(mat.oldest == mat.next && pad.wanted == mat.next, "a rest is left at a device");
     check(written == (way->frames ? ROWS + ROWS / batch : 0) && taken == written, "the frames are not one a message");
     for (i = 0; i < written; i++) check(memcmp(&went[i], &came[i], sizeof went[i]) == 0, "a frame was read otherwise");
 }

@@ -30,4 +30,5 @@ lines 'the parts' $(specs tables air mat pad)
 lines 'frames' $(specs buffers frames)
 lines 'a page' $(specs buffers page)
 lines 'a file' $(specs buffers horsefile)
-lines 'C' $(specs cframes clinks exports) crates/events/specs/Lent.antt
+lines 'two devices' $(specs devices world)
+lines 'C' $(specs cframes clinks exports cdevices) crates/events/specs/Lent.antt

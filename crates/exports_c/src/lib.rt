@@ -1,10 +1,11 @@
-// The static library for C: each call of `exports`, `cframes` and `cfiles` under its name, with its contract.
+// The static library for C: each call of `exports`, `cdevices`, `cframes` and `cfiles` under its name, with its contract.
 #![tactic(auto)]
 
 ghost use Rattle.clinks.specs.Links.{clink};
 ghost use Rattle.clinks.specs.Asked.{asked};
 ghost use Rattle.exports.specs.Calls.{OpenCall, StepCall, RunCall, RideCall};
 
+pub mod cdevice;
 pub mod cfile;
 pub mod cframe;
 pub mod cpage;

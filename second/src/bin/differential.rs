@@ -9,7 +9,10 @@ use second::proved::Proved;
 use second::report::{Outcome, Replay};
 use second::threads::Amount;
 use second::trials::{random_trials, short_trials};
-use second::{checks, file_checks, frame_checks, links, page_checks, wait_checks};
+use second::{
+    checks, device_bytes, device_checks, device_openings, device_rides, file_checks, frame_checks, links, page_checks,
+    wait_checks,
+};
 use std::process::exit;
 use std::time::Instant;
 
@@ -82,6 +85,11 @@ fn main() {
     asked.part("writings", |a| frame_checks::writings(&Proved, &a.replay, a.amount, 200_000));
     asked.part("pages", |a| page_checks::pages(&Proved, &a.replay, a.amount, 10_000));
     asked.part("files", |a| file_checks::files(&Proved, &a.replay, a.amount, 5_000));
+    asked.part("device-calls", |a| device_checks::made_up_devices(&Proved, &a.replay, a.amount.percent(5)));
+    asked.part("device-damage", |a| device_checks::damaged_devices(&Proved, &a.replay, a.amount.percent(4)));
+    asked.part("device-openings", |a| device_openings::device_openings(&Proved, &a.replay, a.amount));
+    asked.part("device-bytes", |a| device_bytes::any_bytes(&Proved, &a.replay, a.amount.percent(10)));
+    asked.part("device-lists", |a| device_rides::device_lists(&Proved, &a.replay, a.amount.percent(6)));
     if asked.ran == 0 {
         usage();
     }

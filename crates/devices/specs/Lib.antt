@@ -1,0 +1,4 @@
+pub mod Frames
+pub mod Mats
+pub mod Pads
+pub mod Told

@@ -1,0 +1,10 @@
+pub mod Air
+pub mod Steps
+pub mod Stands
+pub mod Fronts
+pub mod Sends
+pub mod MatSteps
+pub mod PadSteps
+pub mod Arrivals
+pub mod AirSteps
+pub mod Chains
