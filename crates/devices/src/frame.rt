@@ -1,4 +1,4 @@
-// The frames that a device takes in, and those that it writes.
+// Inner: called by lentmat and lentpad. The frames that a device takes in, and those that it writes.
 ghost use Rattle.std.specs.Prelude.{◌≡◌, ◌≤◌, true, length};
 ghost use Rattle.limits.specs.Questions.{Answered};
 ghost use Rattle.limits.specs.Limits.{sound_limits};

@@ -21,7 +21,7 @@ use Rattle.frames.specs.Meanings.{HasRow}
 use Rattle.frames.specs.declared.DataFrame.{DataFrame}
 use Rattle.frames.specs.declared.Frame.{Frame}
 use Rattle.frames.proofs.Theorems.{length-bytes, data-of-bytes, read-written}
-use Rattle.devices.specs.Frames.{data_frame, reply_frame, data_questions, data_in, reply_in}
+use Rattle.devices.specs.Frames.{data_frame, reply_frame, data_questions, data_in}
 use Rattle.devices.proofs.Laws.Frames.{data-asked, reply-asked, received}
 use Rattle.world.specs.World.{frame_in_air}
 use Rattle.world.specs.TwoDevices.{good_data, good_reply}
@@ -67,9 +67,6 @@ module _ (l : Limits) (g : sound_limits l ≡ true) (buffer : List ℕ) where
         ∙ eq-eqb _ 0 (sym (received l (bytes_of (data_frame l x)) true (sym r.accepted) refl refl))
 
   module _ (x : Reply) (s : sound_reply l x ≡ true) where
-    pub reply-in-air-is : on_body reply_in (frame_in_air 5 (frame_into (reply_frame l x) buffer)) ≡ record { body = x; life = l.replylife }
-    reply-in-air-is = refl
-
     pub reply-good : good_reply l (frame_in_air 5 (frame_into (reply_frame l x) buffer)) ≡ true
     reply-good =
         let r = read-written (reply_frame l x) (tt {0}) (reply-asked l g x s) in
