@@ -1,9 +1,9 @@
 -- What the air does is what the link's event does; and bytes that are no frame of this link change nothing.
 use Prim.Native.Nat.{ℕ, ◌<◌}
 use borrow.Author.Tests.{ne_eqb, eqb-false, eq-eqb}
-use Rattle.std.specs.Prelude.{Result, Ok, Err}
+use Rattle.std.specs.Prelude.{OnErr, Result, Ok, Err}
 use Rattle.mat.specs.Rules.{acknowledge_questions}
-use Rattle.limits.specs.Questions.{Question, ask, first_no, pick, Answer, time_questions}
+use Rattle.limits.specs.Questions.{Changed, Question, ask, first_no, pick, Answer, time_questions}
 use Rattle.limits.specs.declared.Limits.{Limits}
 use Rattle.frames.specs.declared.Frame.{Frame}
 use Rattle.frames.specs.declared.Frame.TheVariants.{Data, Reply}
@@ -60,33 +60,31 @@ frame-not-4 kind l bytes =
     (all_append (λ (q : Question). not4 q.code) (read_questions bytes) _
     ∙ both _ _ (all_append (λ (q : Question). not4 q.code) (layout_questions bytes) (value_questions (reading bytes)) ∙ both _ _ refl (value-codes (reading bytes))) refl)
 
--- questions that are not passed, behind 4
-refused-first : (qs more : List Question) (sound : Bool) (j : ℕ) → sound ≡ true → (first_no qs ≡ 0 → ⊥) → j ≡ first_no (ask 4 sound ∷ (qs ++ more)) → j ≡ first_no qs
-refused-first qs more sound j s ne e = e ∙ sound-first (qs ++ more) sound s ∙ first-stays qs more (ne_eqb (first_no qs) 0 ne)
+-- A call whose first questions behind 4 are not passed is refused with their number, and changes nothing.
+refused-by : {S V X : Type 0} (qs more : List Question) (b : Bool) (r : Result X Refusal) (done : X) (shown moved : V) (sound : S → Bool) (before after : S) → b ≡ true
+    → (first_no qs ≡ 0 → ⊥) → Changed (ask 4 b ∷ (qs ++ more)) r done shown moved sound before after → (number_of r ≡ first_no qs) × (after ≡ before)
+refused-by {X = X} qs more b r done shown moved sound before after s ne c =
+    (number, left r number c.kept)
+  where
+    number : number_of r ≡ first_no qs
+    number = c.answered.number ∙ sound-first (qs ++ more) b s ∙ first-stays qs more (ne_eqb (first_no qs) 0 ne)
 
--- noise is refused with its own number, and nothing changes
+    left : (q : Result X Refusal) → number_of q ≡ first_no qs → OnErr q (after ≡ before) → after ≡ before
+    left (Ok x) e k = absurd (ne (sym e))
+    left (Err f) e k = k
+
 pub mat-noise : (x x' : MatDevice) (bytes : List ℕ) (r : Result ℕ Refusal) → mats.sound_device x ≡ true → (first_no (reply_questions x.limits bytes) ≡ 0 → ⊥)
     → mats.ReceiveCall x bytes x' r → (number_of r ≡ first_no (reply_questions x.limits bytes)) × (x' ≡ x)
-mat-noise x x' bytes (Ok v) s ne c =
-    absurd (ne (sym (refused-first (reply_questions x.limits bytes) (acknowledge_questions x.limits (mats.state_of x) (reply_in bytes)) (mats.sound_device x) 0 s ne c.answered.number)))
-mat-noise x x' bytes (Err e) s ne c = (
-  refused-first (reply_questions x.limits bytes) (acknowledge_questions x.limits (mats.state_of x) (reply_in bytes)) (mats.sound_device x) _ s ne c.answered.number,
-  c.kept,
-)
+mat-noise x x' bytes r s ne c =
+    refused-by (reply_questions x.limits bytes) (acknowledge_questions x.limits (mats.state_of x) (reply_in bytes)) (mats.sound_device x) r _ _ _ mats.sound_device x x' s ne c
 
 pub pad-noise : (x x' : PadDevice) (bytes before after : List ℕ) (r : Result ℕ Refusal) → pads.sound_device x ≡ true → (first_no (data_questions x.limits bytes) ≡ 0 → ⊥)
     → pads.ReceiveCall x bytes before x' after r → (number_of r ≡ first_no (data_questions x.limits bytes)) × (x' ≡ x) × (after ≡ before)
-pad-noise x x' bytes before after (Ok v) s ne c =
-    absurd
-    (ne
-    (sym
-    (refused-first (data_questions x.limits bytes) (pick (arrival x.limits (pads.state_of x) (data_in bytes)).old (space_questions 5 before) []) (pads.sound_device x) 0 s ne
-    c.answered.number)))
-pad-noise x x' bytes before after (Err e) s ne c = (
-  refused-first (data_questions x.limits bytes) (pick (arrival x.limits (pads.state_of x) (data_in bytes)).old (space_questions 5 before) []) (pads.sound_device x) _ s ne c.answered.number,
-  ap (λ y. y.0) c.kept,
-  ap (λ y. y.1) c.kept,
-)
+pad-noise x x' bytes before after r s ne c =
+    let f =
+    refused-by {S = PadDevice × List ℕ} (data_questions x.limits bytes) (pick (arrival x.limits (pads.state_of x) (data_in bytes)).old (space_questions 5 before) [])
+    (pads.sound_device x) r _ _ _ (λ y. pads.sound_device y.0) (x, before) (x', after) s ne c in
+    (f.0, ap (λ y. y.0) f.1, ap (λ y. y.1) f.1)
 
 -- the event of a tick, by what a device answers
 tick-event : (d : ℕ) → leb 1 d ≡ true → event 8 d ≡ tick d
