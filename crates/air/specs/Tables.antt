@@ -26,6 +26,10 @@ HoldsIn form l t ms = Holds form l t.count t.words ms
 abbrev pub TableCall : {B : Type 0} {n : ℕ} → Form B → Limits → List Question → List (Message B) → Result (Unit {0}) Refusal → Table B n → Table B n → Type 0
 TableCall form l questions moved r before after = Changed questions r tt (table_messages form after) moved (sound_in form l) before after
 
+-- the same of a count and words, which are lent: of a table of any length that has them
+abbrev pub LentCall : {B : Type 0} → Form B → Limits → List Question → List (Message B) → Result (Unit {0}) Refusal → ℕ → List ℕ → ℕ → List ℕ → Type 0
+LentCall form l questions moved r count words count' words' = (n : ℕ) → TableCall {n = n} form l questions moved r (table_of count words) (table_of count' words')
+
 -- what reading message p promises
 abbrev pub TableReading : {B : Type 0} {n : ℕ} → Form B → Table B n → ℕ → List Question → Result (Message B) Refusal → Type 0
 TableReading form t p questions r = Answered questions r (get_or (table_messages form t) p form.none)

@@ -1,5 +1,5 @@
 // The two tables. Each call puts question 4 first: to the limits, the table and the message handed to it.
-ghost use Rattle.std.specs.Prelude.{◌≡◌, ◌&&◌, ◌∷◌, ◌*◌, ◌≤◌, replicate};
+ghost use Rattle.std.specs.Prelude.{◌≡◌, ◌&&◌, ◌∷◌, replicate};
 ghost use Rattle.limits.specs.Questions.{ask, time_questions};
 ghost use Rattle.limits.specs.Limits.{sound_limits};
 ghost use Rattle.limits.specs.Tables.{put, remove, age};
@@ -8,21 +8,17 @@ ghost use Rattle.air.specs.Forms.{sound_of};
 ghost use Rattle.air.specs.Tables.{table_of, table_messages, sound_in, TableCall, TableReading};
 
 use crate::lent;
-use crate::lent::LentTable;
 use crate::messages::Roomy;
 use limits::Limits;
 use limits::answer::Refusal;
 use limits::messages::{Data, Message, Reply};
 use std::marker::PhantomData;
 
-// A table whose words are lent where they are.
-macro_rules! lend {
+// A table's count and its words, lent where they are, one by one, as `mat_parts` of the mat.
+#[macro_export]
+macro_rules! table_parts {
     ($table:expr) => {
-        LentTable {
-            count: $table.count,
-            words: &mut $table.words,
-            carries: PhantomData::<M>,
-        }
+        ($table.count, &mut $table.words)
     };
 }
 
@@ -63,6 +59,13 @@ impl<M: Roomy<N>, const N: usize> Table<M, N> {
         }
     }
 
+    // The count that a call on the parts left.
+    pub fn recount(&mut self, count: usize)
+        ensures { self.new ≡ table_of count self.old.words }
+    {
+        self.count = count;
+    }
+
     pub fn empty() -> Self
         ensures { result ≡ table_of 0 (replicate N 0) }
     {
@@ -73,14 +76,7 @@ impl<M: Roomy<N>, const N: usize> Table<M, N> {
     pub fn is_sound(&self, l: Limits) -> bool
         ensures { result ≡ (sound_limits l && sound_in M.form l self.now) }
     {
-        limits::sound_limits(l) && lent::table_sound::<M>(l, self.count, &self.words)
-    }
-
-    // Question 4 of limits, a table and a message.
-    fn is_sound_with(&self, l: Limits, message: Message<M>) -> bool
-        ensures { result ≡ (sound_limits l && (sound_in M.form l self.now && sound_of M.form l message)) }
-    {
-        self.is_sound(l) && lent::message_sound(l, message)
+        lent::is_sound::<M>(l, self.count, &self.words)
     }
 
     // A message is put at the table's end: 4, then 13 or 18.
@@ -89,17 +85,7 @@ impl<M: Roomy<N>, const N: usize> Table<M, N> {
             (ask 4 (sound_limits l && (sound_in M.form l self.old && sound_of M.form l message)) ∷ room_questions M.form.full (table_messages M.form self.old))
             (put message (table_messages M.form self.old)) result self.old self.new }
     {
-        if !self.is_sound_with(l, message) {
-            return Err(Refusal::Unsound);
-        }
-        if 32 <= self.count {
-            return Err(M::full());
-        }
-        message
-            .body
-            .write(message.life, &mut self.words, self.count);
-        self.count += 1;
-        Ok(())
+        lent::put(l, &mut self.count, &mut self.words, message)
     }
 
     // Message p: 4, 17.
@@ -107,12 +93,7 @@ impl<M: Roomy<N>, const N: usize> Table<M, N> {
         ensures { TableReading M.form self.now p
             (ask 4 (sound_limits l && sound_in M.form l self.now) ∷ place_questions p (table_messages M.form self.now)) result }
     {
-        if !self.is_sound(l) {
-            return Err(Refusal::Unsound);
-        }
-        if self.count <= p {
-            return Err(Refusal::NoMessage);
-        }
+        lent::found::<M>(l, self.count, &self.words, p)?;
         Ok(lent::message_at::<M>(&self.words, p))
     }
 
@@ -122,11 +103,7 @@ impl<M: Roomy<N>, const N: usize> Table<M, N> {
             (ask 4 (sound_limits l && sound_in M.form l self.old) ∷ place_questions p (table_messages M.form self.old))
             (remove p (table_messages M.form self.old)) result self.old self.new }
     {
-        self.read(l, p)?;
-        let mut lent = lend!(self);
-        lent.remove(p);
-        self.count = lent.count;
-        Ok(())
+        lent::remove::<M>(l, &mut self.count, &mut self.words, p)
     }
 
     // Lives fall by d, and messages with no life left go: 4, 9.
@@ -135,15 +112,6 @@ impl<M: Roomy<N>, const N: usize> Table<M, N> {
             (ask 4 (sound_limits l && sound_in M.form l self.old) ∷ time_questions d)
             (age d (table_messages M.form self.old)) result self.old self.new }
     {
-        if !self.is_sound(l) {
-            return Err(Refusal::Unsound);
-        }
-        if d == 0 {
-            return Err(Refusal::BadArgument);
-        }
-        let mut lent = lend!(self);
-        lent.age(d);
-        self.count = lent.count;
-        Ok(())
+        lent::tick::<M>(l, &mut self.count, &mut self.words, d)
     }
 }

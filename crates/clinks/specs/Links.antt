@@ -4,10 +4,7 @@ use Rattle.limits.specs.declared.Limits.{Limits}
 use Rattle.limits.specs.Questions.{pick}
 use Rattle.events.specs.declared.Link.{Link}
 use Rattle.events.specs.declared.Numbers.{Numbers}
-use Rattle.mat.specs.View.{mat_of}
-use Rattle.pad.specs.View.{pad_of}
-use Rattle.air.specs.Data.{data_table}
-use Rattle.air.specs.Replies.{reply_table}
+use Rattle.events.specs.Lent.{link_of}
 use Rattle.clinks.specs.declared.LentCLink.{LentCLink}
 
 pub record CLink : Type 0 where
@@ -68,17 +65,6 @@ limits_list l = l.window ∷ l.datalife ∷ l.replylife ∷ l.replywait ∷ l.re
 
 abbrev pub head_of : Limits → Numbers → List ℕ
 head_of l n = limits_list l ++ (n.oldest ∷ n.next ∷ n.wanted ∷ n.datas ∷ n.replies ∷ [])
-
--- the link of its limits, its numbers and its arrays
-abbrev pub link_of : Limits → Numbers → List Bool → List ℕ → List ℕ → List Bool → List ℕ → List ℕ → List ℕ → List ℕ → Link
-link_of l n marks mattimers matcells held padtimers padcells datas replies =
-    record {
-      limits = l;
-      mat = mat_of n.oldest n.next marks mattimers matcells;
-      pad = pad_of n.wanted held padtimers padcells;
-      datas = data_table n.datas datas;
-      replies = reply_table n.replies replies;
-    }
 
 -- what is kept with another head and other marks
 abbrev pub written : CLink → Limits → Numbers → List Bool → List Bool → CLink

@@ -1,5 +1,6 @@
 -- A link whose arrays are lent, and events as the enum of them.
-use Rattle.std.specs.Prelude.{ℕ, ◌≡◌, List, Result, Ok, Err}
+use Rattle.std.specs.Prelude.{ℕ, ◌≡◌, Bool, List, Result, Ok, Err}
+use Rattle.limits.specs.declared.Limits.{Limits}
 use Rattle.limits.specs.declared.answer.Refusal.{Refusal}
 use Rattle.limits.specs.Answer.{refusal_number}
 use Rattle.limits.specs.Questions.{Answer}
@@ -11,6 +12,7 @@ use Rattle.air.specs.Rules.{room_questions}
 use Rattle.air.specs.Data.{data_table}
 use Rattle.air.specs.Replies.{reply_table, reply_messages}
 use Rattle.events.specs.declared.Link.{Link}
+use Rattle.events.specs.declared.Numbers.{Numbers}
 use Rattle.events.specs.declared.LentLink.{LentLink}
 use Rattle.events.specs.declared.event.Event.{Event}
 use Rattle.events.specs.declared.event.Event.TheVariants.{Send, Resend, ArriveData, Reply, ArriveReply, LoseData, LoseReply, Tick}
@@ -18,16 +20,21 @@ use Rattle.events.specs.State.{LinkState}
 use Rattle.events.specs.Rules.{old_taken, answer}
 use Rattle.events.specs.View.{link_state, LinkCall}
 
+-- the link of its limits, its numbers and its arrays
+abbrev pub link_of : Limits → Numbers → List Bool → List ℕ → List ℕ → List Bool → List ℕ → List ℕ → List ℕ → List ℕ → Link
+link_of l n marks mattimers matcells held padtimers padcells datas replies =
+    record {
+      limits = l;
+      mat = mat_of n.oldest n.next marks mattimers matcells;
+      pad = pad_of n.wanted held padtimers padcells;
+      datas = data_table n.datas datas;
+      replies = reply_table n.replies replies;
+    }
+
 -- the link that is lent
 abbrev pub lent_link : LentLink → Link
 lent_link k =
-    record {
-      limits = k.limits;
-      mat = mat_of k.numbers.oldest k.numbers.next k.marks.now k.mattimers.now k.matcells.now;
-      pad = pad_of k.numbers.wanted k.held.now k.padtimers.now k.padcells.now;
-      datas = data_table k.numbers.datas k.datas.now;
-      replies = reply_table k.numbers.replies k.replies.now;
-    }
+    link_of k.limits k.numbers k.marks.now k.mattimers.now k.matcells.now k.held.now k.padtimers.now k.padcells.now k.datas.now k.replies.now
 
 -- What every call leaves: the limits, and the arrays that are lent, so that whoever lent them finds what it wrote.
 abbrev pub StaysLent : LentLink → LentLink → Type 0

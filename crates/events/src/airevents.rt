@@ -1,5 +1,6 @@
 // Inner: called by `act` (event). The events of the air: a message is lost, time passes. The link passed question 4.
-ghost use Rattle.std.specs.Prelude.{◌≡◌, true, List, ℕ, Ok};
+ghost use Rattle.std.specs.Prelude.{◌≡◌, true, List, ℕ, ◌≤◌, Ok};
+ghost use Rattle.limits.specs.Limits.{sound_limits};
 ghost use Rattle.limits.specs.Events.{lose_data, lose_reply, tick};
 ghost use Rattle.events.specs.View.{sound_link, HasRoom, Counted};
 ghost use Rattle.events.specs.Lent.{lent_link, StaysLent};
@@ -12,17 +13,20 @@ use mat::lentmat::LentMat;
 use pad::lentpad::LentPad;
 use std::marker::PhantomData;
 
+// Inlined, as `event` says, but for a tick.
 impl LentLink<'_> {
     // Message p leaves the data table: 17.
     // Stays (no plainer): this event and the next are two of document 01, each with a table of its own.
+    #[inline(always)]
     pub fn lose_data(&mut self, p: usize, counts: &mut Counts) -> Result<(), Refusal>
-        requires { (sound_link (lent_link self.old) ≡ true) × HasRoom counts.old }
+        requires { (self.old.numbers.datas ≤ 32) × HasRoom counts.old }
         ensures lent { StaysLent self.old self.new }
         ensures untouched { (self.new.marks.now ≡ self.old.marks.now) × (self.new.mattimers.now ≡ self.old.mattimers.now)
             × (self.new.matcells.now ≡ self.old.matcells.now) × (self.new.held.now ≡ self.old.held.now)
             × (self.new.padtimers.now ≡ self.old.padtimers.now) × (self.new.padcells.now ≡ self.old.padcells.now)
             × (self.new.replies.now ≡ self.old.replies.now) }
-        ensures counted { (supply b : List ℕ) → Counted (lent_link self.old) supply b b counts.old (lose_data p) (lent_link self.new) counts.new result }
+        ensures counted { sound_link (lent_link self.old) ≡ true
+            → (supply b : List ℕ) → Counted (lent_link self.old) supply b b counts.old (lose_data p) (lent_link self.new) counts.new result }
     {
         if self.numbers.datas <= p {
             return Err(Refusal::NoMessage);
@@ -35,14 +39,16 @@ impl LentLink<'_> {
     }
 
     // Message p leaves the reply table: 17.
+    #[inline(always)]
     pub fn lose_reply(&mut self, p: usize, counts: &mut Counts) -> Result<(), Refusal>
-        requires { (sound_link (lent_link self.old) ≡ true) × HasRoom counts.old }
+        requires { (self.old.numbers.replies ≤ 32) × HasRoom counts.old }
         ensures lent { StaysLent self.old self.new }
         ensures untouched { (self.new.marks.now ≡ self.old.marks.now) × (self.new.mattimers.now ≡ self.old.mattimers.now)
             × (self.new.matcells.now ≡ self.old.matcells.now) × (self.new.held.now ≡ self.old.held.now)
             × (self.new.padtimers.now ≡ self.old.padtimers.now) × (self.new.padcells.now ≡ self.old.padcells.now)
             × (self.new.datas.now ≡ self.old.datas.now) }
-        ensures counted { (supply b : List ℕ) → Counted (lent_link self.old) supply b b counts.old (lose_reply p) (lent_link self.new) counts.new result }
+        ensures counted { sound_link (lent_link self.old) ≡ true
+            → (supply b : List ℕ) → Counted (lent_link self.old) supply b b counts.old (lose_reply p) (lent_link self.new) counts.new result }
     {
         if self.numbers.replies <= p {
             return Err(Refusal::NoMessage);
@@ -56,11 +62,12 @@ impl LentLink<'_> {
 
     // Time passes by d ticks.
     pub fn tick(&mut self, d: u16, counts: &mut Counts)
-        requires { (sound_link (lent_link self.old) ≡ true) × HasRoom counts.old }
+        requires { (sound_limits self.old.limits ≡ true) × (self.old.numbers.datas ≤ 32) × (self.old.numbers.replies ≤ 32) × HasRoom counts.old }
         ensures lent { StaysLent self.old self.new }
         ensures untouched { (self.new.marks.now ≡ self.old.marks.now) × (self.new.matcells.now ≡ self.old.matcells.now)
             × (self.new.held.now ≡ self.old.held.now) × (self.new.padcells.now ≡ self.old.padcells.now) }
-        ensures counted { (supply b : List ℕ) → Counted (lent_link self.old) supply b b counts.old (tick d) (lent_link self.new) counts.new (Ok (tt {0})) }
+        ensures counted { sound_link (lent_link self.old) ≡ true
+            → (supply b : List ℕ) → Counted (lent_link self.old) supply b b counts.old (tick d) (lent_link self.new) counts.new (Ok (tt {0})) }
     {
         lend_mat!(self).tick(self.limits, d);
         lend_pad!(self).tick(self.limits, d);

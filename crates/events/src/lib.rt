@@ -78,8 +78,8 @@ pub struct Numbers {
 
 // A link whose arrays are lent: those of the mat, those of the pad, and the words of the two tables. It holds the references itself:
 // of those in a struct inside it, whoever lends would not learn what was written.
-// Stays (no plainer): that it is sound is a clause of each event and no invariant, since it is lent before question 4 is put of it; the
-// same holds of a mat, a pad and a table that are lent.
+// Stays (no plainer): that it is sound is a premise of what each event promises and no invariant, since it is lent before question 4 is
+// put of it; the same holds of a mat, a pad and a table that are lent.
 #[derive(Drop)]
 pub struct LentLink<'a> {
     pub limits: Limits,

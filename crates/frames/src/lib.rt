@@ -53,7 +53,10 @@ pub enum Frame {
     Reply(ReplyFrame),
 }
 
+// Stays (speed): what reads, asks and writes a frame is inlined into the calls that come with one, so that a frame is not made in
+// memory and moved from there; as functions of their own these cost a call twice as much.
 // 24, 25, 26 of a frame with the numbers first and last.
+#[inline(always)]
 fn frame_answer(window: usize, first: usize, last: usize, life: u16) -> Result<(), Refusal>
     ensures { number_of result ≡ first_no (frame_questions window (first ∷ last ∷ []) life) }
 {
@@ -70,6 +73,7 @@ fn frame_answer(window: usize, first: usize, last: usize, life: u16) -> Result<(
 }
 
 // 24, 25, 26, 12.
+#[inline(always)]
 fn data_answer(f: &DataFrame) -> Result<(), Refusal>
     ensures { number_of result ≡ first_no (data_questions f.now) }
 {
@@ -81,6 +85,7 @@ fn data_answer(f: &DataFrame) -> Result<(), Refusal>
 }
 
 // 24, 25, 26, 27.
+#[inline(always)]
 fn reply_answer(f: &ReplyFrame) -> Result<(), Refusal>
     ensures { number_of result ≡ first_no (reply_questions f.now) }
 {
@@ -93,6 +98,7 @@ fn reply_answer(f: &ReplyFrame) -> Result<(), Refusal>
 }
 
 // The questions of the values: 24, 25, 26, then 12 or 27.
+#[inline(always)]
 fn value_answer(frame: &Frame) -> Result<(), Refusal>
     ensures { number_of result ≡ first_no (value_questions frame.now) }
 {
@@ -102,6 +108,7 @@ fn value_answer(frame: &Frame) -> Result<(), Refusal>
     }
 }
 
+#[inline(always)]
 fn cells_of(bytes: &[u8]) -> [u16; 16]
     requires { length bytes.now ≡ 36 }
     ensures { result ≡ cells_at bytes.now 4 16 }
@@ -109,6 +116,7 @@ fn cells_of(bytes: &[u8]) -> [u16; 16]
     array::from_fn(|k| u16::from_le_bytes([bytes[4 + 2 * k], bytes[5 + 2 * k]]))
 }
 
+#[inline(always)]
 fn data_of(bytes: &[u8]) -> DataFrame
     requires { length bytes.now ≡ 36 }
     ensures { result ≡ data_of bytes.now }
@@ -124,6 +132,7 @@ fn data_of(bytes: &[u8]) -> DataFrame
     }
 }
 
+#[inline(always)]
 fn reply_of(bytes: &[u8]) -> ReplyFrame
     requires { length bytes.now ≡ 5 }
     ensures { result ≡ reply_of bytes.now }
@@ -139,6 +148,7 @@ fn reply_of(bytes: &[u8]) -> ReplyFrame
 }
 
 // The frame that the bytes are laid out as: 22, 23.
+#[inline(always)]
 fn laid_out(bytes: &[u8]) -> Result<Frame, Refusal>
     ensures { Answered (layout_questions bytes.now) result (reading bytes.now) }
 {
@@ -155,6 +165,7 @@ fn laid_out(bytes: &[u8]) -> Result<Frame, Refusal>
 }
 
 // Any bytes, none too: 22, 23, 24, 25, 26, then 12 or 27.
+#[inline(always)]
 pub fn read(bytes: &[u8]) -> Result<Frame, Refusal>
     ensures { Answered (read_questions bytes.now) result (reading bytes.now) }
 {
@@ -173,6 +184,7 @@ fn size_of(frame: &Frame) -> usize
 }
 
 // A frame at the front of a buffer, and how many bytes it has: 24, 25, 26, 12 or 27, 28.
+#[inline(always)]
 pub fn write(frame: &Frame, buffer: &mut [u8]) -> Result<usize, Refusal>
     ensures { WriteCall (write_questions frame.now buffer.old)
         (writing (size_of frame.now) (frame_into frame.now buffer.old)) result buffer.old buffer.new }

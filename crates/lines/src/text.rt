@@ -15,15 +15,16 @@ pub fn number(buffer: &mut [u8], at: usize, n: u8) -> usize
     requires { at + 3 ≤ length buffer.old }
     ensures { Wrote at (decimal n) buffer.old buffer.new result }
 {
-    let hundreds = b'0' + n / 100;
-    let tens = b'0' + n / 10 % 10;
-    let ones = b'0' + n % 10;
     if n < 10 {
-        buffers::word(buffer, at, &[ones])
+        buffers::word(buffer, at, &[b'0' + n])
     } else if n < 100 {
-        buffers::word(buffer, at, &[tens, ones])
+        buffers::word(buffer, at, &[b'0' + n / 10, b'0' + n % 10])
     } else {
-        buffers::word(buffer, at, &[hundreds, tens, ones])
+        buffers::word(
+            buffer,
+            at,
+            &[b'0' + n / 100, b'0' + n / 10 % 10, b'0' + n % 10],
+        )
     }
 }
 

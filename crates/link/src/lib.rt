@@ -15,26 +15,30 @@ use pad::Pad;
 
 // A link's parts, its arrays lent where they are.
 macro_rules! lend {
-    ($k:expr) => {
+    ($k:expr) => {{
+        let (oldest, next, marks, mattimers, matcells) = mat::mat_parts!($k.mat);
+        let (wanted, held, padtimers, padcells) = pad::pad_parts!($k.pad);
+        let (datas_count, datas) = air::table_parts!($k.datas);
+        let (replies_count, replies) = air::table_parts!($k.replies);
         LentLink {
             limits: $k.limits,
             numbers: Numbers {
-                oldest: $k.mat.oldest,
-                next: $k.mat.next,
-                wanted: $k.pad.wanted,
-                datas: $k.datas.count,
-                replies: $k.replies.count,
+                oldest,
+                next,
+                wanted,
+                datas: datas_count,
+                replies: replies_count,
             },
-            marks: &mut $k.mat.marks,
-            mattimers: &mut $k.mat.timers,
-            matcells: &mut $k.mat.cells,
-            held: &mut $k.pad.held,
-            padtimers: &mut $k.pad.timers,
-            padcells: &mut $k.pad.cells,
-            datas: &mut $k.datas.words,
-            replies: &mut $k.replies.words,
+            marks,
+            mattimers,
+            matcells,
+            held,
+            padtimers,
+            padcells,
+            datas,
+            replies,
         }
-    };
+    }};
 }
 
 fn fresh(limits: Limits) -> Link
@@ -70,11 +74,10 @@ pub fn sound(k: Link) -> bool
 fn renumber(k: &mut Link, n: Numbers)
     ensures { k.new ≡ renumbered k.old n }
 {
-    k.mat.oldest = n.oldest;
-    k.mat.next = n.next;
-    k.pad.wanted = n.wanted;
-    k.datas.count = n.datas;
-    k.replies.count = n.replies;
+    k.mat.renumber(n.oldest, n.next);
+    k.pad.renumber(n.wanted);
+    k.datas.recount(n.datas);
+    k.replies.recount(n.replies);
 }
 
 // The call for one event: 4, 6, then the event's questions.

@@ -1,7 +1,7 @@
 -- How the mat's arrays show its window, question 4 of a mat, and what its calls promise.
 -- Free, and not shown: the cells of rows not outstanding, and what stands beyond w. Marks of rows not outstanding are off by
 -- question 4, and every call keeps that.
-use Rattle.std.specs.Prelude.{ℕ, ◌≡◌, ◌+◌, ◌-◌, ◌*◌, Bool, true, false, not, ◌&&◌, List, leb, ltb, get_or, replicate, Result}
+use Rattle.std.specs.Prelude.{ℕ, ◌≡◌, ◌+◌, ◌-◌, ◌*◌, ◌<◌, ◌≤◌, Bool, true, false, not, ◌&&◌, List, leb, ltb, get_or, replicate, Result}
 use Rattle.limits.specs.declared.Limits.{Limits}
 use Rattle.limits.specs.Lists.{tab, all}
 use Rattle.limits.specs.Cells.{row_at, legal_row}
@@ -67,9 +67,9 @@ sound_mat l m =
     && (all (λ t. leb t l.resendwait) (tab l.window (λ i. get_or m.timers i 0))
     && all legal_row (tab (outstanding_of l.window m) (cells_at l.window m))))
 
--- question 4 of limits and a mat, passed
-abbrev pub SoundAt : Limits → Mat → Type 0
-SoundAt l m = (sound_limits l ≡ true) × (sound_mat l m ≡ true)
+-- question 4 passed, of the limits and the mat's numbers: what an inner call asks that needs no more of the mat
+abbrev pub NumbersAt : Limits → Mat → Type 0
+NumbersAt l m = (sound_limits l ≡ true) × (m.oldest < 2 * l.window) × (m.next < 2 * l.window) × (outstanding_of l.window m ≤ l.window)
 
 -- What the mat's calls promise: the answer, what an Ok holds, and the mat afterwards.
 abbrev pub SendCall : Limits → List Question → Result Data Refusal → Sending → Mat → Mat → Type 0

@@ -2,7 +2,7 @@
 // passed, on a mat whose arrays are lent and change in place.
 #![tactic(auto, using(limits::proofs::Laws::Good::good))]
 
-ghost use Rattle.std.specs.Prelude.{◌≡◌, Bool, true, false, not, ◌&&◌, List, ℕ, Ok, ◌+◌, ◌*◌, ◌%◌, ◌<◌, ◌≤◌, leb, get_or, take};
+ghost use Rattle.std.specs.Prelude.{◌≡◌, Bool, true, false, not, ◌&&◌, List, ℕ, Ok, IfOk, ◌+◌, ◌*◌, ◌%◌, ◌<◌, ◌≤◌, leb, get_or, take};
 ghost use Rattle.limits.specs.Lists.{tab, all, leading};
 ghost use Rattle.limits.specs.Cells.{row_at, legal_row};
 ghost use Rattle.limits.specs.Questions.{Answered};
@@ -10,7 +10,7 @@ ghost use Rattle.limits.specs.Limits.{sound_limits};
 ghost use Rattle.limits.specs.Ring.{distance, step};
 ghost use Rattle.limits.specs.Tables.{sound_reply};
 ghost use Rattle.mat.specs.Rules.{send_questions, sending, resend_questions, resending, acknowledge_questions, passing, acknowledging, ticked};
-ghost use Rattle.mat.specs.View.{mat_of, lent_mat, StaysLent, SoundAt, outstanding_of, cells_at, mat_state, sound_numbers, sound_marks, sound_mat, SendCall, AcknowledgeCall};
+ghost use Rattle.mat.specs.View.{mat_of, lent_mat, StaysLent, NumbersAt, outstanding_of, cells_at, mat_state, sound_numbers, sound_marks, sound_mat, SendCall, AcknowledgeCall};
 
 use limits::answer::Refusal;
 use limits::messages::{Data, Reply};
@@ -120,35 +120,74 @@ fn marked_run(marks: &[bool; 32], w: usize, from: usize, most: usize) -> usize
     most
 }
 
+// The first row of the supply, where it may be sent: 10, 11, 12.
+// Stays (no plainer): this and `due` take the parts one by one, as `mat_sound`.
+pub fn next_row(l: Limits, oldest: usize, next: usize, supply: &[u16]) -> Result<[u16; 16], Refusal>
+    requires { (sound_limits l ≡ true) × (oldest < 2 * l.window) × (next < 2 * l.window) }
+    ensures { (marks : List Bool) (timers cells : List ℕ)
+        → Answered (send_questions l (mat_state l.window (mat_of oldest next marks timers cells)) supply.now) result (take 16 supply.now) }
+{
+    let w = l.window;
+    if w <= ring::gap(2 * w, oldest, next) {
+        return Err(Refusal::WindowFull);
+    }
+    if supply.len() < 16 {
+        return Err(Refusal::NoRowLeft);
+    }
+    let row = rows::read(supply, 0);
+    if !rows::legal_row(row) {
+        return Err(Refusal::IllegalCell);
+    }
+    Ok(row)
+}
+
+// The number oldest + k, where its row may be sent again: 14, 15, 16.
+pub fn due(
+    l: Limits,
+    oldest: usize,
+    next: usize,
+    marks: &[bool; 32],
+    timers: &[u16; 32],
+    k: usize,
+) -> Result<usize, Refusal>
+    requires { (sound_limits l ≡ true) × (oldest < 2 * l.window) × (next < 2 * l.window) × (distance (2 * l.window) oldest next ≤ l.window) }
+    ensures { (cells : List ℕ)
+        → Answered (resend_questions l (mat_state l.window (mat_of oldest next marks.now timers.now cells)) k) result (step (2 * l.window) oldest k) }
+{
+    let w = l.window;
+    if ring::gap(2 * w, oldest, next) <= k {
+        return Err(Refusal::NotOutstanding);
+    }
+    let number = ring::forward(2 * w, oldest, k);
+    let at = ring::slot(w, number);
+    if marks[at] {
+        return Err(Refusal::AlreadyAcknowledged);
+    }
+    if timers[at] != 0 {
+        return Err(Refusal::TimerRunning);
+    }
+    Ok(number)
+}
+
 // Where one place of an array is read or set, the array is named first, so that the check follows it and knows its length.
 impl LentMat<'_> {
     // The first row of the supply, where it may be sent: 10, 11, 12.
     pub fn next_row(&self, l: Limits, supply: &[u16]) -> Result<[u16; 16], Refusal>
-        requires { SoundAt l (lent_mat self.now) }
+        requires { (sound_limits l ≡ true) × (self.now.oldest < 2 * l.window) × (self.now.next < 2 * l.window) }
         ensures { Answered (send_questions l (mat_state l.window (lent_mat self.now)) supply.now) result (take 16 supply.now) }
     {
-        let w = l.window;
-        if w <= ring::gap(2 * w, self.oldest, self.next) {
-            return Err(Refusal::WindowFull);
-        }
-        if supply.len() < 16 {
-            return Err(Refusal::NoRowLeft);
-        }
-        let row = rows::read(supply, 0);
-        if !rows::legal_row(row) {
-            return Err(Refusal::IllegalCell);
-        }
-        Ok(row)
+        next_row(l, self.oldest, self.next, supply)
     }
 
     // The first row of a supply, which may be sent, is kept as row next, its timer is set, and next rises by 1. Gives the row's
     // message.
     pub fn keep(&mut self, l: Limits, row: [u16; 16]) -> Data
-        requires { SoundAt l (lent_mat self.old) }
+        requires { (sound_limits l ≡ true) × (self.old.next < 2 * l.window) }
         ensures lent { StaysLent self.old self.new }
         ensures stays { self.new.oldest ≡ self.old.oldest }
         ensures untouched { self.new.marks.now ≡ self.old.marks.now }
-        ensures sends { (supply : List ℕ) → (let s = mat_state l.window (lent_mat self.old) in
+        ensures gives { result ≡ record { number = self.old.next; row = row } }
+        ensures sends { sound_mat l (lent_mat self.old) ≡ true → (supply : List ℕ) → (let s = mat_state l.window (lent_mat self.old) in
             Answered (send_questions l s supply) (Ok row) (take 16 supply)
             → SendCall l (send_questions l s supply) (Ok result) (sending l s supply) (lent_mat self.old) (lent_mat self.new)) }
     {
@@ -164,35 +203,21 @@ impl LentMat<'_> {
 
     // The number oldest + k, where its row may be sent again: 14, 15, 16.
     pub fn due(&self, l: Limits, k: usize) -> Result<usize, Refusal>
-        requires { SoundAt l (lent_mat self.now) }
+        requires { NumbersAt l (lent_mat self.now) }
         ensures { Answered (resend_questions l (mat_state l.window (lent_mat self.now)) k) result
             (step (2 * l.window) self.now.oldest k) }
     {
-        let w = l.window;
-        let marks: &[bool; 32] = self.marks;
-        let timers: &[u16; 32] = self.timers;
-        if ring::gap(2 * w, self.oldest, self.next) <= k {
-            return Err(Refusal::NotOutstanding);
-        }
-        let number = ring::forward(2 * w, self.oldest, k);
-        let at = ring::slot(w, number);
-        if marks[at] {
-            return Err(Refusal::AlreadyAcknowledged);
-        }
-        if timers[at] != 0 {
-            return Err(Refusal::TimerRunning);
-        }
-        Ok(number)
+        due(l, self.oldest, self.next, self.marks, self.timers, k)
     }
 
     // Stays (no plainer): a number that is handed over, here and below, is below 2w by what answered it or by the message it stands in.
     // The timer of the kept row under `number`, which is due, is set again. Gives the row's message.
     pub fn again(&mut self, l: Limits, number: usize) -> Data
-        requires { SoundAt l (lent_mat self.old) × (number < 2 * l.window) }
+        requires { (sound_limits l ≡ true) × (number < 2 * l.window) }
         ensures lent { StaysLent self.old self.new }
         ensures stays { (self.new.oldest ≡ self.old.oldest) × (self.new.next ≡ self.old.next) }
         ensures untouched { (self.new.marks.now ≡ self.old.marks.now) × (self.new.cells.now ≡ self.old.cells.now) }
-        ensures resends { (k : ℕ) → k < outstanding_of l.window (lent_mat self.old) → number ≡ step (2 * l.window) self.old.oldest k
+        ensures resends { sound_mat l (lent_mat self.old) ≡ true → (k : ℕ) → k < outstanding_of l.window (lent_mat self.old) → number ≡ step (2 * l.window) self.old.oldest k
             → (sound_mat l (lent_mat self.new) ≡ true)
             × (record { state = mat_state l.window (lent_mat self.new); message = result }
             ≡ resending l (mat_state l.window (lent_mat self.old)) k) }
@@ -207,12 +232,13 @@ impl LentMat<'_> {
     // The `count` numbers from `first` on are marked, and oldest passes every marked number, whose marks are taken away. Gives by
     // how many rows oldest rose.
     fn mark_off(&mut self, l: Limits, first: usize, count: usize) -> usize
-        requires { SoundAt l (lent_mat self.old) × (first < 2 * l.window) × (1 ≤ count)
+        requires { NumbersAt l (lent_mat self.old) × (first < 2 * l.window) × (1 ≤ count)
             × (distance (2 * l.window) self.old.oldest first + count ≤ outstanding_of l.window (lent_mat self.old)) }
         ensures lent { StaysLent self.old self.new }
         ensures stays { self.new.next ≡ self.old.next }
         ensures untouched { (self.new.timers.now ≡ self.old.timers.now) × (self.new.cells.now ≡ self.old.cells.now) }
-        ensures passes { (sound_mat l (lent_mat self.new) ≡ true)
+        ensures low { result ≤ l.window }
+        ensures passes { sound_mat l (lent_mat self.old) ≡ true → (sound_mat l (lent_mat self.new) ≡ true)
             × (record { state = mat_state l.window (lent_mat self.new); passed = result }
             ≡ passing l (mat_state l.window (lent_mat self.old)) (distance (2 * l.window) self.old.oldest first) count) }
     {
@@ -228,11 +254,12 @@ impl LentMat<'_> {
 
     // A reply, where its numbers are outstanding: 19. Gives by how many rows oldest rose.
     pub fn acknowledge(&mut self, l: Limits, reply: Reply) -> Result<usize, Refusal>
-        requires { SoundAt l (lent_mat self.old) × (sound_reply l reply ≡ true) }
+        requires { NumbersAt l (lent_mat self.old) × (sound_reply l reply ≡ true) }
         ensures lent { StaysLent self.old self.new }
         ensures stays { self.new.next ≡ self.old.next }
         ensures untouched { (self.new.timers.now ≡ self.old.timers.now) × (self.new.cells.now ≡ self.old.cells.now) }
-        ensures acknowledges { (let s = mat_state l.window (lent_mat self.old) in
+        ensures low { IfOk result (λ passed. passed ≤ l.window) }
+        ensures acknowledges { sound_mat l (lent_mat self.old) ≡ true → (let s = mat_state l.window (lent_mat self.old) in
             AcknowledgeCall l (acknowledge_questions l s reply) result (acknowledging l s reply)
             (lent_mat self.old) (lent_mat self.new)) }
     {
@@ -247,11 +274,11 @@ impl LentMat<'_> {
 
     // Every resend timer falls by d.
     pub fn tick(&mut self, l: Limits, d: u16)
-        requires { SoundAt l (lent_mat self.old) }
+        requires { sound_limits l ≡ true }
         ensures lent { StaysLent self.old self.new }
         ensures stays { (self.new.oldest ≡ self.old.oldest) × (self.new.next ≡ self.old.next) }
         ensures untouched { (self.new.marks.now ≡ self.old.marks.now) × (self.new.cells.now ≡ self.old.cells.now) }
-        ensures ticks { (sound_mat l (lent_mat self.new) ≡ true)
+        ensures ticks { sound_mat l (lent_mat self.old) ≡ true → (sound_mat l (lent_mat self.new) ≡ true)
             × (mat_state l.window (lent_mat self.new) ≡ ticked d (mat_state l.window (lent_mat self.old))) }
     {
         rows::fall(self.timers, l.window, d);

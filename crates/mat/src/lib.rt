@@ -6,7 +6,7 @@ ghost use Rattle.limits.specs.Questions.{ask, time_questions};
 ghost use Rattle.limits.specs.Limits.{sound_limits};
 ghost use Rattle.limits.specs.Tables.{sound_reply};
 ghost use Rattle.mat.specs.Rules.{send_questions, sending, resend_questions, resending, acknowledge_questions, acknowledging, ticked};
-ghost use Rattle.mat.specs.View.{mat_state, fresh_mat, sound_mat, SendCall, AcknowledgeCall, TickCall};
+ghost use Rattle.mat.specs.View.{mat_of, mat_state, fresh_mat, sound_mat, SendCall, AcknowledgeCall, TickCall};
 
 pub mod lentmat;
 
@@ -40,7 +40,30 @@ macro_rules! lend {
     };
 }
 
+// The same one by one, for what lends the arrays of several parts at once, so that it names no field. A macro, since of references
+// that a call hands out whoever lends would not learn what was written.
+#[macro_export]
+macro_rules! mat_parts {
+    ($m:expr) => {
+        (
+            $m.oldest,
+            $m.next,
+            &mut $m.marks,
+            &mut $m.timers,
+            &mut $m.cells,
+        )
+    };
+}
+
 impl Mat {
+    // The numbers that a call on the parts left.
+    pub fn renumber(&mut self, oldest: usize, next: usize)
+        ensures { self.new ≡ mat_of oldest next self.old.marks self.old.timers self.old.cells }
+    {
+        self.oldest = oldest;
+        self.next = next;
+    }
+
     pub fn fresh() -> Mat
         ensures { result ≡ fresh_mat }
     {

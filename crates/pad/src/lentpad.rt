@@ -1,16 +1,15 @@
 // Inner: called by the pad's public calls, events and runs. The pad's events where question 4 has been put and passed, on a pad
 // whose arrays are lent and change in place.
-#![tactic(auto, using(limits::proofs::Laws::Good::good, crate::proofs::Laws::Sound::facts, crate::proofs::Laws::Run::known))]
+#![tactic(auto, using(limits::proofs::Laws::Good::good))]
 
 ghost use Rattle.std.specs.Prelude.{◌≡◌, List, ℕ, Bool, true, false, ◌&&◌, ◌++◌, ◌+◌, ◌*◌, ◌%◌, ◌<◌, ◌≤◌, ltb, length, get_or, drop, IsTrue, ◌↔◌};
 ghost use Rattle.limits.specs.Lists.{tab, leading, joined};
 ghost use Rattle.limits.specs.Cells.{row_at, legal_row};
 ghost use Rattle.limits.specs.Questions.{pick, Answered};
 ghost use Rattle.limits.specs.Limits.{sound_limits};
-ghost use Rattle.limits.specs.Tables.{sound_data};
 ghost use Rattle.limits.specs.Ring.{distance};
 ghost use Rattle.pad.specs.Rules.{holding, run, run_questions, replying, ticked};
-ghost use Rattle.pad.specs.View.{pad_of, lent_pad, StaysLent, pad_state, HeldLegal, sound_pad, SoundAt, Shows};
+ghost use Rattle.pad.specs.View.{pad_of, lent_pad, StaysLent, pad_state, HeldLegal, sound_pad, Shows};
 
 use limits::answer::Refusal;
 use limits::messages::{Data, Reply};
@@ -55,7 +54,7 @@ fn cells_sound(held: &[bool; 32], cells: &[u16; 512], w: usize) -> bool
 }
 
 // Question 4 of the pad.
-// Stays (no plainer): this and `run_length` take the parts one by one, since a pad that is only looked at lends nothing.
+// Stays (no plainer): this, `in_window` and `run_length` take the parts one by one, since a pad that is only looked at lends nothing.
 // Stays (speed): as `mat_sound` of the mat, with `cells_sound`.
 #[inline(always)]
 pub fn pad_sound(
@@ -70,6 +69,15 @@ pub fn pad_sound(
 {
     let w = l.window;
     wanted < 2 * w && (rows::at_most(timers, w, l.replywait) && cells_sound(held, cells, w))
+}
+
+// Whether the number is one of the window. Any other is an old row's.
+pub fn in_window(l: Limits, wanted: usize, number: usize) -> bool
+    requires { (sound_limits l ≡ true) × (wanted < 2 * l.window) × (number < 2 * l.window) }
+    ensures { result ≡ ltb (distance (2 * l.window) wanted number) l.window }
+{
+    let w = l.window;
+    ring::gap(2 * w, wanted, number) < w
 }
 
 // How many rows from place `from` on, round the ring, are ready.
@@ -124,20 +132,20 @@ fn write_run(buffer: &mut [u16], cells: &[u16; 512], w: usize, from: usize, coun
 impl LentPad<'_> {
     // Whether the number is one of the window. Any other is an old row's.
     pub fn in_window(&self, l: Limits, number: usize) -> bool
-        requires { SoundAt l (lent_pad self.now) × (number < 2 * l.window) }
+        requires { (sound_limits l ≡ true) × (self.now.wanted < 2 * l.window) × (number < 2 * l.window) }
         ensures { result ≡ ltb (distance (2 * l.window) self.now.wanted number) l.window }
     {
-        let w = l.window;
-        ring::gap(2 * w, self.wanted, number) < w
+        in_window(l, self.wanted, number)
     }
 
     // The row, one of the window, is held, and its reply timer starts.
     pub fn hold(&mut self, l: Limits, data: Data)
-        requires { SoundAt l (lent_pad self.old) × (sound_data l «data» ≡ true)
-            × (distance (2 * l.window) self.old.wanted «data».number < l.window) }
+        requires { (sound_limits l ≡ true) × («data».number < 2 * l.window) }
         ensures lent { StaysLent self.old self.new }
         ensures stays { self.new.wanted ≡ self.old.wanted }
-        ensures moves { Shows l (lent_pad self.new) (holding l (pad_state l.window (lent_pad self.old)) «data») }
+        ensures moves { sound_pad l (lent_pad self.old) ≡ true → legal_row «data».row ≡ true
+            → distance (2 * l.window) self.old.wanted «data».number < l.window
+            → Shows l (lent_pad self.new) (holding l (pad_state l.window (lent_pad self.old)) «data») }
     {
         let at = ring::slot(l.window, data.number);
         // The proof knows the lengths of these two as locals only.
@@ -150,7 +158,7 @@ impl LentPad<'_> {
 
     // The length of the run at wanted: 20.
     pub fn run_length(&self, l: Limits) -> Result<usize, Refusal>
-        requires { SoundAt l (lent_pad self.now) }
+        requires { (sound_limits l ≡ true) × (self.now.wanted < 2 * l.window) }
         ensures { let s = pad_state l.window (lent_pad self.now) in Answered (run_questions s) result (run s) }
     {
         run_length(l, self.wanted, self.held, self.timers)
@@ -158,11 +166,12 @@ impl LentPad<'_> {
 
     // The run of `count` rows at wanted is recorded and passed. The reply covers it.
     pub fn record_run(&mut self, l: Limits, count: usize, buffer: &mut [u16]) -> Reply
-        requires { SoundAt l (lent_pad self.old) × (0 < count) × (count ≡ run (pad_state l.window (lent_pad self.old)))
+        requires { (sound_limits l ≡ true) × (self.old.wanted < 2 * l.window) × (1 ≤ count) × (count ≤ l.window)
             × (16 * count ≤ length buffer.old) }
         ensures lent { StaysLent self.old self.new }
         ensures untouched { (self.new.timers.now ≡ self.old.timers.now) × (self.new.cells.now ≡ self.old.cells.now) }
-        ensures moves { (sound_pad l (lent_pad self.new) ≡ true)
+        ensures moves { sound_pad l (lent_pad self.old) ≡ true → count ≡ run (pad_state l.window (lent_pad self.old))
+            → (sound_pad l (lent_pad self.new) ≡ true)
             × (record { state = pad_state l.window (lent_pad self.new); count = count; reply = result; buffer = buffer.new }
             ≡ replying l (pad_state l.window (lent_pad self.old)) buffer.old) }
     {
@@ -180,11 +189,12 @@ impl LentPad<'_> {
 
     // Every reply timer falls by d.
     pub fn tick(&mut self, l: Limits, d: u16)
-        requires { SoundAt l (lent_pad self.old) }
+        requires { sound_limits l ≡ true }
         ensures lent { StaysLent self.old self.new }
         ensures stays { self.new.wanted ≡ self.old.wanted }
         ensures untouched { (self.new.held.now ≡ self.old.held.now) × (self.new.cells.now ≡ self.old.cells.now) }
-        ensures moves { Shows l (lent_pad self.new) (ticked d (pad_state l.window (lent_pad self.old))) }
+        ensures moves { sound_pad l (lent_pad self.old) ≡ true
+            → Shows l (lent_pad self.new) (ticked d (pad_state l.window (lent_pad self.old))) }
     {
         rows::fall(self.timers, l.window, d);
     }

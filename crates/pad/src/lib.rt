@@ -7,7 +7,7 @@ ghost use Rattle.limits.specs.Questions.{ask, Answered, time_questions};
 ghost use Rattle.limits.specs.Limits.{sound_limits};
 ghost use Rattle.limits.specs.Tables.{sound_data};
 ghost use Rattle.pad.specs.Rules.{arrival, run, run_questions, reply_questions, replying, ticked};
-ghost use Rattle.pad.specs.View.{pad_state, fresh_pad, sound_pad, ArriveCall, ReplyCall, TickCall};
+ghost use Rattle.pad.specs.View.{pad_of, pad_state, fresh_pad, sound_pad, ArriveCall, ReplyCall, TickCall};
 
 pub mod lentpad;
 
@@ -46,7 +46,22 @@ macro_rules! lend {
     };
 }
 
+// The same one by one, as `mat_parts` of the mat.
+#[macro_export]
+macro_rules! pad_parts {
+    ($p:expr) => {
+        ($p.wanted, &mut $p.held, &mut $p.timers, &mut $p.cells)
+    };
+}
+
 impl Pad {
+    // The number that a call on the parts left.
+    pub fn renumber(&mut self, wanted: usize)
+        ensures { self.new ≡ pad_of wanted self.old.held self.old.timers self.old.cells }
+    {
+        self.wanted = wanted;
+    }
+
     pub fn fresh() -> Pad
         ensures { result ≡ fresh_pad }
     {

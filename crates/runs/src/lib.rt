@@ -6,33 +6,57 @@ ghost use Rattle.std.specs.Prelude.{◌≡◌};
 ghost use Rattle.limits.specs.Answer.{number_of};
 ghost use Rattle.limits.specs.Questions.{first_no};
 ghost use Rattle.events.specs.View.{sound_link};
-ghost use Rattle.events.specs.Lent.{lent_link, StaysLent};
+ghost use Rattle.events.specs.Lent.{link_of, lent_link, StaysLent};
 ghost use Rattle.runs.specs.View.{lent_asks, Stepped, Ran};
 
 use air::lent;
-use events::{Counts, LentLink};
+use events::{Counts, LentLink, Numbers};
+use limits::Limits;
 use limits::answer::Refusal;
 use limits::messages::{Data, Reply};
 use mat::lentmat;
 use pad::lentpad;
 
+// Question 4, of the parts one by one: a link that is only looked at lends nothing.
+// Stays (speed): inlined, as `mat_sound` and `pad_sound` that it asks.
+#[inline(always)]
+pub fn parts_sound(
+    l: Limits,
+    n: Numbers,
+    marks: &[bool; 32],
+    mattimers: &[u16; 32],
+    matcells: &[u16; 512],
+    held: &[bool; 32],
+    padtimers: &[u16; 32],
+    padcells: &[u16; 512],
+    datas: &[u16; 576],
+    replies: &[u16; 96],
+) -> bool
+    ensures { result ≡ sound_link (link_of l n marks.now mattimers.now matcells.now held.now padtimers.now padcells.now datas.now replies.now) }
+{
+    limits::sound_limits(l)
+        && (lentmat::mat_sound(l, n.oldest, n.next, marks, mattimers, matcells)
+            && (lentpad::pad_sound(l, n.wanted, held, padtimers, padcells)
+                && (lent::table_sound::<Data>(l, n.datas, datas)
+                    && lent::table_sound::<Reply>(l, n.replies, replies))))
+}
+
 // Question 4.
 pub fn is_sound(link: &LentLink<'_>) -> bool
     ensures { result ≡ sound_link (lent_link link.now) }
 {
-    let l = link.limits;
-    let n = link.numbers;
-    limits::sound_limits(l)
-        && (lentmat::mat_sound(
-            l,
-            n.oldest,
-            n.next,
-            link.marks,
-            link.mattimers,
-            link.matcells,
-        ) && (lentpad::pad_sound(l, n.wanted, link.held, link.padtimers, link.padcells)
-            && (lent::table_sound::<Data>(l, n.datas, link.datas)
-                && lent::table_sound::<Reply>(l, n.replies, link.replies))))
+    parts_sound(
+        link.limits,
+        link.numbers,
+        link.marks,
+        link.mattimers,
+        link.matcells,
+        link.held,
+        link.padtimers,
+        link.padcells,
+        link.datas,
+        link.replies,
+    )
 }
 
 // The call for one event: 4, 6, then the event's questions.

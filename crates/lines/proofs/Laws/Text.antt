@@ -12,17 +12,13 @@ use Rattle.buffers.specs.Buffers.{Wrote}
 use Rattle.buffers.proofs.Laws.Buffers.{both-wrote, same-wrote}
 use Rattle.lines.specs.Text.{decimal, sent_word, acknowledged_word, recorded_word, refused_word, event_line, counts_line, refused_line}
 
-pub one-digit : (n : ℕ) → n < 10 → digit (n % 10) ∷ [] ≡ decimal n
+pub one-digit : (n : ℕ) → n < 10 → digit n ∷ [] ≡ decimal n
 unfolding decimal
-one-digit n h =
-    let ones : n % 10 ≡ n = omega arith in
-    rw ones (sym (pick_yes _ _ _ _ (lt-ltb n 10 h) refl))
+one-digit n h = sym (pick_yes _ _ _ _ (lt-ltb n 10 h) refl)
 
-pub two_digits : (n : ℕ) → 10 ≤ n → n < 100 → digit (n / 10 % 10) ∷ digit (n % 10) ∷ [] ≡ decimal n
+pub two_digits : (n : ℕ) → 10 ≤ n → n < 100 → digit (n / 10) ∷ digit (n % 10) ∷ [] ≡ decimal n
 unfolding decimal
-two_digits n h k =
-    let tens : n / 10 % 10 ≡ n / 10 = omega arith in
-    rw tens (sym (pick_no _ _ _ _ (le-ltb n 10 h) (pick_yes _ _ _ _ (lt-ltb n 100 k) refl)))
+two_digits n h k = sym (pick_no _ _ _ _ (le-ltb n 10 h) (pick_yes _ _ _ _ (lt-ltb n 100 k) refl))
 
 pub three-digits : (n : ℕ) → 100 ≤ n → digit (n / 100) ∷ digit (n / 10 % 10) ∷ digit (n % 10) ∷ [] ≡ decimal n
 unfolding decimal

@@ -10,17 +10,18 @@ use lib.ListN.{take}
 use Rattle.std.specs.Prelude.{Ok}
 use Rattle.limits.specs.declared.Limits.{Limits}
 use Rattle.limits.specs.Questions.{Question, first_no, Answered}
+use Rattle.limits.specs.Limits.{sound_limits}
 use Rattle.limits.specs.Lists.{all}
 use Rattle.limits.specs.Cells.{legal_row}
 use Rattle.limits.specs.Ring.{distance, step}
 use Rattle.limits.specs.Tables.{Data, Reply, span}
+use Rattle.limits.proofs.Laws.Good.{good}
 use Rattle.limits.proofs.Laws.Questions.{each}
 use Rattle.limits.proofs.Laws.Ring.{step_fits}
 use Rattle.mat.specs.declared.Mat.{Mat}
 use Rattle.mat.specs.Rules.{Sending, send_questions, sending, resend_questions, resending, start_of, passing, acknowledging}
-use Rattle.mat.specs.View.{outstanding_of, mat_state, sound_mat, SoundAt, SendCall}
+use Rattle.mat.specs.View.{outstanding_of, mat_state, sound_mat, SendCall}
 use Rattle.mat.specs.Window.{outstanding}
-use Rattle.mat.proofs.Laws.Sound.{facts}
 use Rattle.mat.proofs.Laws.Send.{sending-row}
 use Rattle.mat.proofs.Laws.Resend.{out-shown}
 
@@ -84,9 +85,9 @@ module _ (l : Limits) (m : Mat) (k number : ℕ)
       let h = ltb-true k (outstanding (mat_state l.window m)) q.0 in
       let o = out-shown l.window m in omega arith
 
-  pub due-low : SoundAt l m → number < 2 * l.window
+  pub due-low : sound_limits l ≡ true → number < 2 * l.window
   due-low s =
-      let f = facts l m s.0 s.1 in
+      let g = good l s in
       let b = step_fits (2 * l.window) m.oldest k (omega arith) in
       let i = c.value in omega arith
 

@@ -18,7 +18,7 @@ use Rattle.limits.proofs.Laws.Lists.{all-tab, all-tab-at, tab-ext}
 use Rattle.limits.proofs.Laws.Ring.{place-by-distance}
 use Rattle.limits.proofs.Laws.Good.{Good, good}
 use Rattle.mat.specs.declared.Mat.{Mat}
-use Rattle.mat.specs.View.{outstanding_of, mark_at, cells_at, sound_numbers, sound_marks, sound_mat}
+use Rattle.mat.specs.View.{NumbersAt, outstanding_of, mark_at, cells_at, sound_numbers, sound_marks, sound_mat}
 
 pub record Numbers (w : ℕ) (m : Mat) : Type 0 where
   pub oldest : m.oldest < 2 * w
@@ -35,6 +35,9 @@ numbers w m e =
   where
     rest : (ltb m.next (2 * w) && leb (outstanding_of w m) w) ≡ true
     rest = and_right (ltb m.oldest (2 * w)) _ e
+
+pub numbered : (l : Limits) (m : Mat) → NumbersAt l m → Numbers l.window m
+numbered l m n = record { oldest = n.1; next = n.2; out = n.3 }
 
 pub record Facts (l : Limits) (m : Mat) : Type 0 where
   pub limits : Good l
@@ -77,6 +80,10 @@ module _ (l : Limits) (m : Mat) where
 
       rest : (timers_right && cells_right) ≡ true
       rest = and_right (sound_marks l.window m) (timers_right && cells_right) more
+
+  -- what passed question 4 has numbers that pass it
+  pub numbers-at : sound_limits l ≡ true → sound_mat l m ≡ true → NumbersAt l m
+  numbers-at g e = let n = (facts g e).numbers in (g, n.oldest, n.next, n.out)
 
   pub sound-of : Facts l m → sound_mat l m ≡ true
   unfolding sound_mat

@@ -202,3 +202,10 @@ not-reported input before h =
 pub reports-ok : (input before after : List ℕ) (r : Result ℕ Refusal) → output_length ≤ length before → Reports input before after r → IsOk r
 reports-ok input before after (Ok n) h p = search rules
 reports-ok input before after (Err r) h p = absurd (clash _ (eq-eqb (refusal_number r) 0 (p.answered.number ∙ sym (output-passes before h))) (refusal-not-0 r))
+
+-- what a caller may read of its output
+pub count_fits : (input before after : List ℕ) (n : ℕ) → Reports input before after (Ok n) → n ≤ length after
+count_fits input before after n p =
+    let v : n ≡ length (text_of input) = p.answered.value in
+    let l : length after ≡ length (text_of input ++ drop (length (text_of input)) before) = ap length p.left in
+    let a = length-append (text_of input) (drop (length (text_of input)) before) in omega arith

@@ -4,6 +4,7 @@ use Rattle.limits.specs.Tables.{sound_reply}
 use Rattle.limits.proofs.Laws.Choice.{two}
 use Rattle.limits.proofs.Laws.Promise.{changed-unsound}
 use Rattle.mat.specs.View.{lent_mat}
+use Rattle.mat.proofs.Laws.Sound.{numbers-at}
 use Rattle.devices.proofs.Laws.Frames.{reply-taken}
 use Rattle.devices.proofs.Laws.Mats.{reply-refused, reply-handled}
 use Rattle.devices.proofs.lentmat.receive.Goals as goal
@@ -17,9 +18,9 @@ returns-in_err-reply-clause-receives c = let a = c.args in
     rw (p.1, p.2) (reply-refused a.l (lent_mat a.mat.now) (lent_mat a.mat.now) a.bytes.now (sym c.if-not-is_sound.ensures) _ c.in_err-reply.ensures.number)
 
 pub acknowledge-requires : goal.acknowledge-requires
-acknowledge-requires c = let a = c.args in let e = c.in_ok-reply.ensures in
-    (two _ _ (sym c.if-not-is_sound.ensures), ap (sound_reply a.l) e.value ∙ reply-taken a.l a.bytes.now (sym e.number))
+acknowledge-requires c = let a = c.args in let e = c.in_ok-reply.ensures in let t = two _ _ (sym c.if-not-is_sound.ensures) in
+    (numbers-at _ (lent_mat a.mat.now) t.0 t.1, ap (sound_reply a.l) e.value ∙ reply-taken a.l a.bytes.now (sym e.number))
 
 pub returns-clause-receives : goal.returns-clause-receives
 returns-clause-receives c = let a = c.args in let e = c.in_ok-reply.ensures in
-    reply-handled a.l (lent_mat a.mat.now) (lent_mat c.acknowledge.new.self) a.bytes.now (sym c.if-not-is_sound.ensures) e.number _ _ e.value c.acknowledge.ensures.acknowledges
+    reply-handled a.l (lent_mat a.mat.now) (lent_mat c.acknowledge.new.self) a.bytes.now (sym c.if-not-is_sound.ensures) e.number _ _ e.value (c.acknowledge.ensures.acknowledges (two _ _ (sym c.if-not-is_sound.ensures)).1)

@@ -9,6 +9,7 @@ use Rattle.limits.proofs.Laws.Choice.{two}
 use Rattle.limits.proofs.Laws.Promise.{changed-unsound}
 use Rattle.mat.specs.Rules.{send_questions, sending}
 use Rattle.mat.specs.View.{lent_mat, mat_state}
+use Rattle.mat.proofs.Laws.Sound.{numbers-at}
 use Rattle.mat.proofs.Laws.Messages.{sending-sound}
 use Rattle.devices.proofs.Laws.Mats.{part-row, whole, send-numbered, send-refused, send-short, send-done}
 use Rattle.devices.proofs.lentmat.send.Goals as goal
@@ -33,13 +34,19 @@ returns-then-frame-lt36-clause-sends c = let a = c.args in let m = lent_mat a.ma
     send-short a.l m (whole_rows a.supply.now ++ send_questions a.l s a.supply.now) (sending a.l s a.supply.now) _ (sym c.if-not-is_sound.ensures)
     (c.in_ok-row.ensures.number ∙ sym (whole a.l s _ c.if-supply-ne0.false)) (send-numbered a.l s _) c.if-frame-lt36.true
 
+pub next_row-requires : goal.next_row-requires
+next_row-requires c = let t = two _ _ (sym c.if-not-is_sound.ensures) in let n = numbers-at _ (lent_mat c.args.mat.now) t.0 t.1 in (t.0, n.1, n.2)
+
+pub keep-data-requires : goal.keep-data-requires
+keep-data-requires c = let t = two _ _ (sym c.if-not-is_sound.ensures) in (t.0, (numbers-at _ (lent_mat c.args.mat.now) t.0 t.1).2)
+
 pub write_data-requires : goal.write_data-requires
 write_data-requires c = let a = c.args in let t = two _ _ (sym c.if-not-is_sound.ensures) in
-    let v = c.keep-data.ensures.sends a.supply.now c.in_ok-row.ensures in
+    let v = c.keep-data.ensures.sends (two _ _ (sym c.if-not-is_sound.ensures)).1 a.supply.now c.in_ok-row.ensures in
     (t.0, ap (sound_data a.l) v.answered.value ∙ sending-sound a.l (lent_mat a.mat.now) t.0 t.1 a.supply.now (sym v.answered.number), omega arith)
 
 pub returns-clause-sends : goal.returns-clause-sends
 returns-clause-sends c = let a = c.args in let m = lent_mat a.mat.now in let s = mat_state a.l.window m in
     send-done a.l m (whole_rows a.supply.now ++ send_questions a.l s a.supply.now) (sending a.l s a.supply.now) _ (sym c.if-not-is_sound.ensures)
     (c.in_ok-row.ensures.number ∙ sym (whole a.l s _ c.if-supply-ne0.false)) (send-numbered a.l s _)
-    _ _ _ _ _ (omega arith) (c.keep-data.ensures.sends a.supply.now c.in_ok-row.ensures) c.write_data.ensures
+    _ _ _ _ _ (omega arith) (c.keep-data.ensures.sends (two _ _ (sym c.if-not-is_sound.ensures)).1 a.supply.now c.in_ok-row.ensures) c.write_data.ensures

@@ -4,9 +4,10 @@ use borrow.Author.Tests.{ltb-true}
 use Rattle.std.proofs.lemmas.Result.{err_from_is_err_and}
 use Rattle.limits.specs.Tables.{sound_data}
 use Rattle.limits.proofs.Laws.Choice.{two}
-use Rattle.limits.proofs.Laws.Messages.{message-low}
+use Rattle.limits.proofs.Laws.Messages.{message-low, message-legal}
 use Rattle.limits.proofs.Laws.Promise.{changed-unsound}
 use Rattle.pad.specs.View.{lent_pad}
+use Rattle.pad.proofs.Laws.Sound.{facts}
 use Rattle.pad.proofs.Laws.Messages.{single-sound}
 use Rattle.devices.proofs.Laws.Frames.{data-taken}
 use Rattle.devices.proofs.Laws.Pads.{data-refused, row-held, old-short, old-answered}
@@ -21,16 +22,17 @@ returns-in_err-data-clause-receives c = let a = c.args in
     rw (p.1, p.2) (data-refused a.l (lent_pad a.pad.now) (sym c.if-not-is_sound.ensures) a.bytes.now _ _ c.in_err-data.ensures.number)
 
 pub in_window-requires : goal.in_window-requires
-in_window-requires c = let a = c.args in let e = c.in_ok-data.ensures in
-    (two _ _ (sym c.if-not-is_sound.ensures), message-low a.l _ _ (ap (sound_data a.l) e.value ∙ data-taken a.l a.bytes.now (sym e.number)))
+in_window-requires c = let a = c.args in let e = c.in_ok-data.ensures in let t = two _ _ (sym c.if-not-is_sound.ensures) in
+    (t.0, (facts _ (lent_pad a.pad.now) t.1).low, message-low a.l _ _ (ap (sound_data a.l) e.value ∙ data-taken a.l a.bytes.now (sym e.number)))
 
 pub hold-requires : goal.hold-requires
 hold-requires c = let a = c.args in let e = c.in_ok-data.ensures in
-    (two _ _ (sym c.if-not-is_sound.ensures), ap (sound_data a.l) e.value ∙ data-taken a.l a.bytes.now (sym e.number), ltb-true _ _ (sym c.if-in_window.ensures))
+    ((two _ _ (sym c.if-not-is_sound.ensures)).0, message-low a.l _ _ (ap (sound_data a.l) e.value ∙ data-taken a.l a.bytes.now (sym e.number)))
 
 pub returns-then-in_window-clause-receives : goal.returns-then-in_window-clause-receives
 returns-then-in_window-clause-receives c = let a = c.args in let e = c.in_ok-data.ensures in
-    row-held a.l (lent_pad a.pad.now) (sym c.if-not-is_sound.ensures) a.bytes.now _ _ e.number e.value _ (sym c.if-in_window.ensures) c.hold.ensures.moves
+    let legal = message-legal a.l _ _ (ap (sound_data a.l) e.value ∙ data-taken a.l a.bytes.now (sym e.number)) in
+    row-held a.l (lent_pad a.pad.now) (sym c.if-not-is_sound.ensures) a.bytes.now _ _ e.number e.value _ (sym c.if-in_window.ensures) (c.hold.ensures.moves (two _ _ (sym c.if-not-is_sound.ensures)).1 legal (ltb-true _ _ (sym c.if-in_window.ensures)))
 
 pub returns-then-reply-lt5-clause-receives : goal.returns-then-reply-lt5-clause-receives
 returns-then-reply-lt5-clause-receives c = let a = c.args in let e = c.in_ok-data.ensures in

@@ -1,3 +1,4 @@
+use Rattle.limits.proofs.Laws.Choice.{two}
 use Rattle.limits.proofs.Laws.Promise.{changed-unsound, changed-sound, changed-refused, time-passed, time-refused}
 use native.Mathlib.Omega.{arith}
 use mathlib.Core.Path.{refl, sym}
@@ -12,6 +13,6 @@ returns-then-d-eq0 c =
 
 pub returns : goal.returns
 returns c =
-    let e = rw (c.tick.ensures.stays.0, c.tick.ensures.stays.1) at c.tick.ensures.ticks in
+    let e = rw (c.tick.ensures.stays.0, c.tick.ensures.stays.1) at (c.tick.ensures.ticks (two _ _ (sym c.if-not-is_sound.ensures)).1) in
     changed-sound _ _ _ _ _ _ _ _ _ (sym c.if-not-is_sound.ensures)
     (record { answered = record { number = time-passed c.args.d (omega arith); value = refl }; left = e.1; kept = tt; stays = λ _. e.0 })

@@ -29,12 +29,14 @@ returns-then-record-count-clause-pad c = let b = c in let a = b.in_ok-count.ensu
 pub record_run-reply-requires : goal.record_run-reply-requires
 record_run-reply-requires c = let b = c in let a = b.in_ok-count.ensures in
     let f = run-found (pad_state b.args.l.window b.args.self.now) _ a.number in
-    (two (sound_limits b.args.l) _ f.0, omega (arith, a.value, f.1), a.value, omega (arith, c.if-record-count.false))
+    let h = two (sound_limits b.args.l) _ f.0 in
+    let k = known _ b.args.self.now h.0 h.1 in
+    (h.0, k.facts.low, omega (arith, a.value, f.1), omega (arith, a.value, k.run-low), omega (arith, c.if-record-count.false))
 
 pub returns-clause-pad : goal.returns-clause-pad
 returns-clause-pad c = let b = c in let a = b.in_ok-count.ensures in
     let f = run-found (pad_state b.args.l.window b.args.self.now) _ a.number in
-    let r = c.record_run-reply.ensures.moves in
+    let r = c.record_run-reply.ensures.moves (two (sound_limits b.args.l) _ f.0).1 a.value in
     record {
       answered = record { number = reply-passes (pad_state b.args.l.window b.args.self.now) _ _ f.0 f.1 (omega (arith, a.value, c.if-record-count.false)); value = λ i. record { count = (r.1 i).count; reply = (r.1 i).reply } };
       left = ap (λ (x : Replying). x.state) r.1;
@@ -43,4 +45,6 @@ returns-clause-pad c = let b = c in let a = b.in_ok-count.ensures in
     }
 
 pub returns-clause-rows : goal.returns-clause-rows
-returns-clause-rows c = ap (λ (x : Replying). x.buffer) c.record_run-reply.ensures.moves.1
+returns-clause-rows c = let b = c in let a = b.in_ok-count.ensures in
+    let f = run-found (pad_state b.args.l.window b.args.self.now) _ a.number in
+    ap (λ (x : Replying). x.buffer) (c.record_run-reply.ensures.moves (two (sound_limits b.args.l) _ f.0).1 a.value).1

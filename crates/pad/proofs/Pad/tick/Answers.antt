@@ -1,4 +1,6 @@
 use Rattle.limits.specs.declared.answer.Refusal.TheVariants.{BadArgument}
+use Rattle.limits.specs.Limits.{sound_limits}
+use Rattle.limits.proofs.Laws.Choice.{two}
 use Rattle.limits.proofs.Laws.Promise.{changed-refused, changed-sound, changed-unsound, time-passed, time-refused}
 use Rattle.pad.proofs.Laws.Calls.{with-number}
 use Rattle.pad.specs.Rules.{ticked}
@@ -17,7 +19,7 @@ returns-then-d-eq0 c =
 
 pub returns : goal.returns
 unfolding pad_state ticked
-returns c = let t = with-number c.args.l _ _ _ refl c.tick.ensures.moves in
+returns c = let t = with-number c.args.l _ _ _ refl (c.tick.ensures.moves (two (sound_limits c.args.l) _ (sym c.is_sound.ensures ∙ c.if-not-is_sound.false)).1) in
     changed-sound _ _ _ _ _ _ _ _ _ (sym c.is_sound.ensures ∙ c.if-not-is_sound.false)
     (record {
       answered = record { number = time-passed c.args.d (omega arith); value = refl };

@@ -1,6 +1,6 @@
 use Rattle.mat.specs.View.{lent_mat}
 use Rattle.mat.proofs.Laws.Calls.{span-yes, span-no, passing-span}
-use Rattle.mat.proofs.Laws.Sound.{facts}
+use Rattle.mat.proofs.Laws.Sound.{numbered}
 use Rattle.limits.proofs.Laws.Ring.{gap_below}
 use Rattle.limits.proofs.Laws.Messages.{reply-facts}
 use Rattle.limits.proofs.Laws.Promise.{changed-refused}
@@ -19,18 +19,18 @@ overflow_add-count c = let r = reply-facts _ _ c.requires.1 in
     let h = gap_below _ _ _ _ c.gap-count.ensures (omega (arith, r)) (omega (arith, r)) in omega (arith, good _ c.requires.0.0, h)
 
 pub gap-requires : goal.gap-requires
-gap-requires c = let f = facts _ _ c.requires.0.0 c.requires.0.1 in omega (arith, f.limits, f.numbers)
+gap-requires c = omega (arith, good _ c.requires.0.0, numbered _ (lent_mat c.args.self.now) c.requires.0)
 
 pub gap-requires-2 : goal.gap-requires-2
-gap-requires-2 c = let f = facts _ _ c.requires.0.0 c.requires.0.1 in omega (arith, reply-facts _ _ c.requires.1, f.limits, f.numbers)
+gap-requires-2 c = omega (arith, reply-facts _ _ c.requires.1, good _ c.requires.0.0, numbered _ (lent_mat c.args.self.now) c.requires.0)
 
 pub overflow_add-gap : goal.overflow_add-gap
-overflow_add-gap c = let r = reply-facts _ _ c.requires.1 in let f = facts _ _ c.requires.0.0 c.requires.0.1 in
+overflow_add-gap c = let r = reply-facts _ _ c.requires.1 in let n = numbered _ (lent_mat c.args.self.now) c.requires.0 in
     let h = gap_below _ _ _ _ c.gap-count.ensures (omega (arith, r)) (omega (arith, r)) in
-    let k = gap_below _ _ _ _ c.gap-2.ensures (omega (arith, f.numbers)) (omega (arith, r)) in omega (arith, f.limits, h, k)
+    let k = gap_below _ _ _ _ c.gap-2.ensures (omega (arith, n)) (omega (arith, r)) in omega (arith, good _ c.requires.0.0, h, k)
 
 pub returns-then-gap-count-clause-acknowledges : goal.returns-then-gap-count-clause-acknowledges
-returns-then-gap-count-clause-acknowledges c =
+returns-then-gap-count-clause-acknowledges c = λ _.
     changed-refused _ _ _ _ _ _ _ _ (sym (pick_no _ _ _ _ (span-no c.args.l (lent_mat c.args.self.now) c.args.reply _ _ _ c.gap-count.ensures c.gap-2.ensures c.gap.ensures c.if-gap-count.true) refl)) refl
 
 pub mark_off-requires : goal.mark_off-requires
@@ -38,8 +38,8 @@ mark_off-requires c = let r = reply-facts _ _ c.requires.1 in
     (c.requires.0, r.first, omega arith, omega (arith, c.gap-2.ensures, c.gap.ensures, c.if-gap-count.false))
 
 pub returns-clause-acknowledges : goal.returns-clause-acknowledges
-returns-clause-acknowledges c = let m = lent_mat c.args.self.now in
-    let e = c.mark_off.ensures.passes in
+returns-clause-acknowledges c = λ s. let m = lent_mat c.args.self.now in
+    let e = c.mark_off.ensures.passes s in
     let d = e.1 ∙ passing-span c.args.l m c.args.reply _ _ _ c.gap-count.ensures c.gap-2.ensures c.gap.ensures in
     record {
       answered =

@@ -3,4 +3,4 @@ use Rattle.pad.specs.View.{lent_pad}
 use Rattle.pad.proofs.lentpad.LentPad.tick.Goals as goal
 
 pub returns-clause-moves : goal.returns-clause-moves
-returns-clause-moves c = timers-fell c.args.l _ (lent_pad c.args.self.now) _ c.requires.0 c.fall.ensures c.requires.1
+returns-clause-moves c = λ s. timers-fell c.args.l _ (lent_pad c.args.self.now) _ c.requires c.fall.ensures s

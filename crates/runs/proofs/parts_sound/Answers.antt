@@ -1,6 +1,6 @@
 use Rattle.std.proofs.Common.{rules}
 use Rattle.events.specs.View.{sound_link}
-use Rattle.runs.proofs.is_sound.Goals as goal
+use Rattle.runs.proofs.parts_sound.Goals as goal
 
 pub returns-then-table_sound : goal.returns-then-table_sound
 unfolding sound_link
