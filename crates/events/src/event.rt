@@ -74,7 +74,8 @@ impl LentLink<'_> {
 
     // An event of two bytes: 8, 9, then the questions of its kind.
     // Stays (speed): inlined, with all that an event does but a tick, into the two that call it, the run's loop and the call for one
-    // event. As one function of both it costs a refused event of a run three times as much, and one that is done a third more.
+    // event. As one function of both it costs a refused event of a run two to four times as much, and one that is done a fifth to two
+    // fifths more.
     #[inline(always)]
     pub fn event(
         &mut self,

@@ -81,14 +81,30 @@ pub changed-as : {S V X : Type 0} (qs qs' : List Question) (r : Result X Refusal
 changed-as qs qs' r done shown moved sound before after e c =
     record { answered = answered-as qs qs' r done e c.answered; left = c.left; kept = c.kept; stays = c.stays }
 
--- a promise whose state and what is shown of it are each read as another: by g and by h
-pub changed-read : {S S' V V' X : Type 0} (h : V → V') (g : S → S') (qs qs' : List Question) (r : Result X Refusal) (done : X) (shown moved : V) (moved' : V')
-    (sound : S → Bool) (sound' : S' → Bool) (before after : S) → first_no qs ≡ first_no qs' → h moved ≡ moved' → ((s : S) → sound' (g s) ≡ sound s)
-    → Changed qs r done shown moved sound before after → Changed qs' r done (h shown) moved' sound' (g before) (g after)
-changed-read h g qs qs' (Ok x) done shown moved moved' sound sound' before after e m same c =
-    record { answered = answered-as qs qs' (Ok x) done e c.answered; left = ap h c.left ∙ m; kept = tt; stays = λ b. same after ∙ c.stays (sym (same before) ∙ b) }
-changed-read h g qs qs' (Err x) done shown moved moved' sound sound' before after e m same c =
-    record { answered = answered-as qs qs' (Err x) done e c.answered; left = tt; kept = ap g c.kept; stays = λ b. same after ∙ c.stays (sym (same before) ∙ b) }
+-- an answer, and what it holds read as another by f
+abbrev pub read_by : {X X' : Type 0} → (X → X') → Result X Refusal → Result X' Refusal
+read_by f (Ok x) = Ok (f x)
+read_by f (Err refusal) = Err refusal
+
+-- a promise whose value, state and what is shown of it are each read as another: by f, g and h
+pub changed-read : {S S' V V' X X' : Type 0} (f : X → X') (h : V → V') (g : S → S') (qs qs' : List Question) (r : Result X Refusal) (done : X) (done' : X')
+    (shown moved : V) (moved' : V') (sound : S → Bool) (sound' : S' → Bool) (before after : S)
+    → first_no qs ≡ first_no qs' → f done ≡ done' → h moved ≡ moved' → ((s : S) → sound' (g s) ≡ sound s)
+    → Changed qs r done shown moved sound before after → Changed qs' (read_by f r) done' (h shown) moved' sound' (g before) (g after)
+changed-read f h g qs qs' (Ok x) done done' shown moved moved' sound sound' before after e d m same c =
+    record {
+      answered = record { number = c.answered.number ∙ e; value = ap f c.answered.value ∙ d };
+      left = ap h c.left ∙ m;
+      kept = tt;
+      stays = λ b. same after ∙ c.stays (sym (same before) ∙ b);
+    }
+changed-read f h g qs qs' (Err x) done done' shown moved moved' sound sound' before after e d m same c =
+    record {
+      answered = record { number = c.answered.number ∙ e; value = tt };
+      left = tt;
+      kept = ap g c.kept;
+      stays = λ b. same after ∙ c.stays (sym (same before) ∙ b);
+    }
 
 -- a call that is refused, and leaves the state as it was
 pub changed-refused : {S V X : Type 0} (qs : List Question) (refusal : Refusal) (done : X) (shown moved : V) (sound : S → Bool) (before after : S)
