@@ -4,7 +4,7 @@ use Rattle.limits.specs.declared.Limits.{Limits}
 use Rattle.limits.specs.Questions.{pick}
 use Rattle.events.specs.declared.Link.{Link}
 use Rattle.events.specs.declared.Numbers.{Numbers}
-use Rattle.events.specs.Lent.{link_of}
+pub use Rattle.events.specs.Lent.{link_of}
 use Rattle.clinks.specs.declared.LentCLink.{LentCLink}
 
 pub record CLink : Type 0 where

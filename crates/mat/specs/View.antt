@@ -67,6 +67,10 @@ sound_mat l m =
     && (all (λ t. leb t l.resendwait) (tab l.window (λ i. get_or m.timers i 0))
     && all legal_row (tab (outstanding_of l.window m) (cells_at l.window m))))
 
+-- question 4 of limits and a mat, passed
+abbrev pub SoundAt : Limits → Mat → Type 0
+SoundAt l m = (sound_limits l ≡ true) × (sound_mat l m ≡ true)
+
 -- question 4 passed, of the limits and the mat's numbers: what an inner call asks that needs no more of the mat
 abbrev pub NumbersAt : Limits → Mat → Type 0
 NumbersAt l m = (sound_limits l ≡ true) × (m.oldest < 2 * l.window) × (m.next < 2 * l.window) × (outstanding_of l.window m ≤ l.window)

@@ -6,6 +6,7 @@ use Rattle.limits.specs.declared.Limits.{Limits}
 use Rattle.limits.specs.Lists.{tab, all}
 use Rattle.limits.specs.Cells.{row_at, legal_row}
 use Rattle.limits.specs.declared.answer.Refusal.{Refusal}
+use Rattle.limits.specs.Limits.{sound_limits}
 use Rattle.limits.specs.Questions.{pick, Question, Answer, Changed}
 use Rattle.limits.specs.Ring.{place}
 use Rattle.limits.specs.Tables.{Reply}
@@ -52,6 +53,10 @@ unfoldable pub sound_pad : Limits → Pad → Bool
 sound_pad l p =
     ltb p.wanted (2 * l.window)
     && (all (λ t. leb t l.replywait) (tab l.window (λ i. get_or p.timers i 0)) && all sound_slot (tab l.window (slot_at p)))
+
+-- question 4 passed, of the limits and the pad
+abbrev pub SoundAt : Limits → Pad → Type 0
+SoundAt l p = (sound_limits l ≡ true) × (sound_pad l p ≡ true)
 
 -- a sound pad that shows the state s
 abbrev pub Shows : Limits → Pad → PadState → Type 0

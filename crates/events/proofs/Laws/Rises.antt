@@ -11,7 +11,7 @@ use borrow.Author.Tests.{eqb-true, leb-true}
 use Rattle.limits.specs.Lists.{all, leading}
 use Rattle.limits.specs.Questions.{first_no}
 use Rattle.limits.specs.Events.{Event, unknown, misfit, send, resend, arrive_data, reply, arrive_reply, lose_data, lose_reply, tick}
-use Rattle.limits.specs.Tables.{span}
+use Rattle.limits.specs.Tables.{Reply, span}
 use Rattle.limits.proofs.Laws.Choice.{pick-cases}
 use Rattle.limits.proofs.Laws.Lists.{length-tab, leading-most}
 use Rattle.limits.proofs.Laws.Questions.{each, front-passed}
@@ -100,3 +100,12 @@ module _ (supply buffer : List ℕ) (s : LinkState) where
       pick-cases (Rises supply buffer s) (eqb (answer supply buffer s e) 0) (acted supply buffer s e) (unmoved s buffer)
       (λ z. acted-rises e (eqb-true (answer supply buffer s e) 0 z))
       (λ z. unmoved-rises supply buffer s s refl)
+
+-- no reply acknowledges more than 32 rows
+pub acknowledged-few : (k : Link) → sound_link k ≡ true → (x : Reply) (n : ℕ) → n ≡ (mat.acknowledging k.limits (mat_state k.limits.window k.mat) x).passed → n ≤ 32
+unfolding link_state
+acknowledged-few k sound x n e =
+    let s = link_state k in
+    let b = passing-balance [] [] s (mat.start_of s.limits s.mat x) (span s.limits.window x) in
+    let o = outstanding-fits k sound in
+    omega arith

@@ -17,7 +17,7 @@ use Rattle.air.specs.Data.{DataTable, data_messages, DataHolds}
 use Rattle.air.specs.Replies.{ReplyTable, reply_messages, ReplyHolds}
 use Rattle.air.proofs.Laws.Sound.{place-passed, place-refused}
 use Rattle.air.specs.Forms.{data_form, reply_form}
-use Rattle.air.proofs.Laws.Forms.{length-messages}
+use Rattle.air.proofs.Laws.Forms.{count-few, length-messages}
 use Rattle.events.specs.declared.Link.{Link}
 use Rattle.events.specs.View.{link_state}
 use Rattle.events.specs.Lent.{OldTaken}
@@ -32,6 +32,9 @@ module _ (t : DataTable) where
   pub data-room : (b : Bool) → ltb t.count capacity ≡ b → ltb (length (data_messages t)) capacity ≡ b
   data-room b e = rw (length-messages data_form t.count t.words) e
 
+  pub data-most : t.count ≤ 32 → length (data_messages t) ≤ 32
+  data-most h = let n = length-messages data_form t.count t.words in omega arith
+
 module _ (t : ReplyTable) where
   pub reply-below : (p : ℕ) → p < length (reply_messages t) → p < t.count
   reply-below p h = rw (length-messages reply_form t.count t.words) at h
@@ -39,12 +42,16 @@ module _ (t : ReplyTable) where
   pub reply-room : (b : Bool) → ltb t.count capacity ≡ b → ltb (length (reply_messages t)) capacity ≡ b
   reply-room b e = rw (length-messages reply_form t.count t.words) e
 
--- a table with a count of at most 32 has as many messages at most
-pub few-datas : (t : DataTable) → t.count ≤ 32 → length (data_messages t) ≤ 32
-few-datas t h = let n = length-messages data_form t.count t.words in omega arith
+  pub reply-most : t.count ≤ 32 → length (reply_messages t) ≤ 32
+  reply-most h = let n = length-messages reply_form t.count t.words in omega arith
 
-pub few-replies : (t : ReplyTable) → t.count ≤ 32 → length (reply_messages t) ≤ 32
-few-replies t h = let n = length-messages reply_form t.count t.words in omega arith
+-- a sound link has at most 32 messages of each kind in the air
+module _ (k : Link) (p : Parts k) where
+  pub few-datas : length (data_messages k.datas) ≤ 32
+  few-datas = data-most k.datas (count-few data_form _ _ _ p.datas)
+
+  pub few-replies : length (reply_messages k.replies) ≤ 32
+  few-replies = reply-most k.replies (count-few reply_form _ _ _ p.replies)
 
 module _ (k : Link) (n : ℕ) (supply b : List ℕ) where
   pub no-data : k.datas.count ≤ n → Moves k supply b b (lose_data n) (tt {0}) k (Err NoMessage)

@@ -33,8 +33,6 @@ use Rattle.events.proofs.Laws.Parts.{parts}
 use Rattle.events.proofs.Laws.Sums.{same-account}
 use Rattle.events.proofs.Laws.Counting.{Shows, shows-counted}
 use Rattle.events.proofs.Laws.Balancing.{datas-balance, replies-balance}
-use Rattle.air.specs.Forms.{data_form, reply_form}
-use Rattle.air.proofs.Laws.Forms.{count-few}
 use Rattle.events.proofs.Laws.Tables.{few-datas, few-replies}
 use Rattle.lists.specs.Account.{account}
 use Rattle.lists.proofs.Laws.Accounts as accounts
@@ -86,8 +84,8 @@ has-room bytes supply rec₀ ans₀ k rec ans link counts i g s short a b =
       omega arith,
       omega arith,
       omega arith,
-      accounts.room data_account (λ (t : LinkState). length t.datas) datas-balance supply (unmoved (link_state k) rec₀) (events bytes) _ _ g.datas (few-datas k.datas (count-few data_form _ _ _ (parts k s).datas)) (omega arith),
-      accounts.room reply_account (λ (t : LinkState). length t.replies) replies-balance supply (unmoved (link_state k) rec₀) (events bytes) _ _ g.replies (few-replies k.replies (count-few reply_form _ _ _ (parts k s).replies)) (omega arith),
+      accounts.room data_account (λ (t : LinkState). length t.datas) datas-balance supply (unmoved (link_state k) rec₀) (events bytes) _ _ g.datas (few-datas k (parts k s)) (omega arith),
+      accounts.room reply_account (λ (t : LinkState). length t.replies) replies-balance supply (unmoved (link_state k) rec₀) (events bytes) _ _ g.replies (few-replies k (parts k s)) (omega arith),
     )
 
 -- what stayed and stayed again

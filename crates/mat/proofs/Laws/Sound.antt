@@ -18,7 +18,7 @@ use Rattle.limits.proofs.Laws.Lists.{all-tab, all-tab-at, tab-ext}
 use Rattle.limits.proofs.Laws.Ring.{place-by-distance}
 use Rattle.limits.proofs.Laws.Good.{Good, good}
 use Rattle.mat.specs.declared.Mat.{Mat}
-use Rattle.mat.specs.View.{NumbersAt, outstanding_of, mark_at, cells_at, sound_numbers, sound_marks, sound_mat}
+use Rattle.mat.specs.View.{SoundAt, NumbersAt, outstanding_of, mark_at, cells_at, sound_numbers, sound_marks, sound_mat}
 
 pub record Numbers (w : ℕ) (m : Mat) : Type 0 where
   pub oldest : m.oldest < 2 * w
@@ -84,6 +84,10 @@ module _ (l : Limits) (m : Mat) where
   -- what passed question 4 has numbers that pass it
   pub numbers-at : sound_limits l ≡ true → sound_mat l m ≡ true → NumbersAt l m
   numbers-at g e = let n = (facts g e).numbers in (g, n.oldest, n.next, n.out)
+
+  -- and meets what each inner call asks of limits and the mat
+  pub asked : SoundAt l m → NumbersAt l m
+  asked s = numbers-at s.0 s.1
 
   pub sound-of : Facts l m → sound_mat l m ≡ true
   unfolding sound_mat

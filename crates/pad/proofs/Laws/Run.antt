@@ -1,5 +1,5 @@
 -- Laws on the run of rows at wanted.
-use Prim.Native.Nat.{ℕ, ◌+◌, ◌%◌, ◌≤◌}
+use Prim.Native.Nat.{ℕ, ◌+◌, ◌*◌, ◌%◌, ◌≤◌, ◌<◌}
 use mathlib.Core.Path.{◌≡◌, sym, ◌∙◌, ap}
 use mathlib.Core.Bool.{Bool, true, false, ◌&&◌}
 use mathlib.Core.List.{map}
@@ -14,7 +14,7 @@ use Rattle.limits.proofs.Laws.Lists.{length-tab, tab-ext, take-tab, map-tab, lea
 use Rattle.pad.specs.declared.Pad.{Pad}
 use Rattle.pad.specs.Window.{ready, contents}
 use Rattle.pad.specs.Rules.{run}
-use Rattle.pad.specs.View.{slot_at, pad_state, sound_pad}
+use Rattle.pad.specs.View.{slot_at, pad_state, sound_pad, SoundAt}
 use Rattle.pad.proofs.Laws.Slots.{slot-ready, ready-contents}
 use Rattle.limits.specs.declared.Limits.{Limits}
 use Rattle.limits.specs.Limits.{sound_limits}
@@ -58,3 +58,8 @@ pub known : (l : Limits) (p : Pad) → sound_limits l ≡ true → sound_pad l p
 known l p h k =
     let g = good l h in
     record { good = g; facts = facts l p k; run-low = run-most l.window p g.window-low }
+
+-- What passed question 4 meets what each inner call asks of limits and the pad.
+pub asked : (l : Limits) (p : Pad) → SoundAt l p
+    → (sound_limits l ≡ true) × (p.wanted < 2 * l.window) × (run (pad_state l.window p) ≤ l.window)
+asked l p s = let k = known l p s.0 s.1 in (s.0, k.facts.low, k.run-low)

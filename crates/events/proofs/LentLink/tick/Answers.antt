@@ -13,7 +13,7 @@ use Rattle.pad.specs.Rules.{ticked}
 use Rattle.pad.specs.View.{pad_state}
 use Rattle.pad.proofs.Laws.Calls.{with-number}
 use Rattle.events.proofs.Laws.Parts.{parts}
-use Rattle.events.proofs.Laws.Tables.{few-datas, few-replies}
+use Rattle.events.proofs.Laws.Tables.{data-most, reply-most}
 use Rattle.events.proofs.Laws.Ticking.{ticks}
 use Rattle.events.proofs.LentLink.tick.Goals as goal
 
@@ -39,8 +39,8 @@ returns-clause-counted c = λ s supply b. let k = lent_link c.args.self.now in l
 
 pub overflow_add-counts : goal.overflow_add-counts
 overflow_add-counts c = let k = lent_link c.args.self.now in let h = c.requires.3 in
-    let e = c.age.ensures.expired in let m = expired-most c.args.d (data_messages k.datas) in let f = few-datas k.datas c.requires.1 in omega arith
+    let e = c.age.ensures.expired in let m = expired-most c.args.d (data_messages k.datas) in let f = data-most k.datas c.requires.1 in omega arith
 
 pub overflow_add-counts-2 : goal.overflow_add-counts-2
 overflow_add-counts-2 c = let k = lent_link c.args.self.now in let h = c.requires.3 in
-    let e = c.age-2.ensures.expired in let m = expired-most c.args.d (reply_messages k.replies) in let f = few-replies k.replies c.requires.2 in omega arith
+    let e = c.age-2.ensures.expired in let m = expired-most c.args.d (reply_messages k.replies) in let f = reply-most k.replies c.requires.2 in omega arith

@@ -1,6 +1,6 @@
 use Rattle.limits.proofs.Laws.Choice.{two}
 use Rattle.limits.proofs.Laws.Promise.{changed-unsound, changed-sound, changed-handed_on}
-use Rattle.mat.proofs.Laws.Sound.{numbers-at}
+use Rattle.mat.proofs.Laws.Sound.{asked}
 use Rattle.mat.proofs.Laws.Calls.{due-there, due-low, resend-done}
 use mathlib.Core.Path.{refl, sym}
 use Rattle.mat.proofs.Mat.resend.Goals as goal
@@ -13,7 +13,7 @@ returns-in_err-number c =
     changed-sound _ _ _ _ _ _ _ _ _ (sym c.if-not-is_sound.ensures) (changed-handed_on _ _ _ _ _ _ _ _ _ c.from_residual.ensures.1 c.in_err-number.ensures.number refl)
 
 pub due-requires : goal.due-requires
-due-requires c = let t = two _ _ (sym c.if-not-is_sound.ensures) in numbers-at _ _ t.0 t.1
+due-requires c = asked _ _ (two _ _ (sym c.if-not-is_sound.ensures))
 
 pub again-requires : goal.again-requires
 again-requires c = let t = two _ _ (sym c.if-not-is_sound.ensures) in (t.0, due-low c.args.l c.args.self.now c.args.k _ c.in_ok-number.ensures t.0)

@@ -1,5 +1,5 @@
 use Rattle.limits.proofs.Laws.Choice.{two}
-use Rattle.mat.proofs.Laws.Sound.{numbers-at}
+use Rattle.mat.proofs.Laws.Sound.{asked}
 use Rattle.limits.proofs.Laws.Promise.{changed-unsound, changed-sound, changed-handed_on}
 use mathlib.Core.Path.{refl, sym}
 use Rattle.mat.proofs.Mat.send.Goals as goal
@@ -12,10 +12,10 @@ returns-in_err-row c =
     changed-sound _ _ _ _ _ _ _ _ _ (sym c.if-not-is_sound.ensures) (changed-handed_on _ _ _ _ _ _ _ _ _ c.from_residual.ensures.1 c.in_err-row.ensures.number refl)
 
 pub next_row-requires : goal.next_row-requires
-next_row-requires c = let t = two _ _ (sym c.if-not-is_sound.ensures) in let n = numbers-at _ _ t.0 t.1 in (t.0, n.1, n.2)
+next_row-requires c = let t = two _ _ (sym c.if-not-is_sound.ensures) in let n = asked _ _ t in (t.0, n.1, n.2)
 
 pub keep-data-requires : goal.keep-data-requires
-keep-data-requires c = let t = two _ _ (sym c.if-not-is_sound.ensures) in (t.0, (numbers-at _ _ t.0 t.1).2)
+keep-data-requires c = let t = two _ _ (sym c.if-not-is_sound.ensures) in (t.0, (asked _ _ t).2)
 
 pub returns : goal.returns
 returns c =
